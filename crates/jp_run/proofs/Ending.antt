@@ -6,7 +6,7 @@ use Rattle.std.proofs.Common.{Result, Ok, Err, IfOk, OnOk}
 use Rattle.std.specs.Io.KnownBytes.{Consumes, IsAtEnd, Keeps}
 use Rattle.std.proofs.KnownBytes.{Consumes-trans, Consumes-kept}
 use Rattle.jp_doc.specs.Lines.{Line}
-use Rattle.jp_doc.specs.Feeding.{Progress, nothing_fed, finished, finished_lines}
+use Rattle.jp_doc.specs.Feeding.{Progress, finished, finished_lines}
 use Rattle.jp_doc.specs.declared.fault.DocFault.{DocFault}
 use Rattle.jp_answer.specs.FilteredQuery.{FilteredQuery}
 use Rattle.jp_pattern.proofs.RightTests.{right_tests}
@@ -23,15 +23,15 @@ use Rattle.jp_run.specs.declared.fault.RunFault.TheVariants.{Query, Filter, Docu
 use Rattle.jp_run.specs.declared.fault.RunFault.TheVariants.{Memory, Settings}
 use Rattle.jp_run.specs.declared.running.Totals.{Totals}
 use Rattle.jp_run.specs.declared.stream.Stream.{Stream}
-use Rattle.jp_run.specs.Cutting.{documents, documents_in, fed, part_count}
+use Rattle.jp_run.specs.Cutting.{documents, documents_in, fed, part_count, progress_in}
 use Rattle.jp_run.specs.inner.Ended.{Ends, InputFront, ReadEnded, AnswerEnded, RestEnded, FailureEnded}
 use Rattle.jp_run.specs.inner.Ended.{StreamEnded}
 use Rattle.jp_run.specs.inner.Standing.{Stands}
 use Rattle.jp_run.specs.inner.Wrote.{HasBytes, HasBytesMore}
 use Rattle.jp_run.specs.Handed.{Handed, HandedFront}
 use Rattle.jp_run.proofs.Coming.{documents_more, documents_whole, count_whole, count_below}
+use Rattle.jp_run.proofs.Coming.{progress_both}
 use Rattle.jp_run.proofs.Handing.{handed_both, handed_stopped, handed_front, front_more, front_after}
-use Rattle.jp_run.proofs.Pieces.{fed_twice}
 use Rattle.jp_run.proofs.Standing.{all_documents}
 use Rattle.jp_run.proofs.Wrote.{wrote_more}
 
@@ -63,26 +63,28 @@ module _ (going : Manner) (q : FilteredQuery) where
 
   -- what was handed out of the first lines is a front of the whole
   input_front : (a c s u : Option (List ℕ)) (bytes : List ℕ) → Consumes a c bytes
-      → HandedFront going q (documents_in going.cutting bytes) s u
-      → IfSome a (λ input. HandedFront going q (documents going.cutting input) s u)
-  input_front a c s u bytes h front = known (λ input. HandedFront going q (documents going.cutting input) s u)
+      → HandedFront going q (documents_in going.numbering bytes) s u
+      → IfSome a (λ input. HandedFront going q (documents going.numbering input) s u)
+  input_front a c s u bytes h front = known
+      (λ input. HandedFront going q (documents going.numbering input) s u)
       a c bytes h
-      (λ rest. let more = documents_more going.cutting bytes rest in
+      (λ rest. let more = documents_more going.numbering bytes rest in
       subst (λ (l : List Line). HandedFront going q l s u) (sym more.1)
-      (front_more going q (documents_in going.cutting bytes) more.0 s u front))
+      (front_more going q (documents_in going.numbering bytes) more.0 s u front))
 
   stopped_front : (a s u : Option (List ℕ)) (stop : ℕ × DocFault)
-      → IfSome a (λ input. Handed going q (documents going.cutting input) (Some stop) s u)
-      → IfSome a (λ input. HandedFront going q (documents going.cutting input) s u)
+      → IfSome a (λ input. Handed going q (documents going.numbering input) (Some stop) s u)
+      → IfSome a (λ input. HandedFront going q (documents going.numbering input) s u)
   stopped_front None s u stop h = tt
-  stopped_front (Some input) s u stop h = handed_front going q (documents going.cutting input) (Some stop) s u
+  stopped_front (Some input) s u stop h = handed_front going q (documents going.numbering input)
+      (Some stop) s u
       h
 
   -- however a run ends, a front of the whole was handed out
   pub ended_front : (e : Ends) (f : RunFault) → StreamEnded going q e f → InputFront going q e
   ended_front e (Document line fault) h = stopped_front e.source_old e.sink_old e.sink_new (line, fault) h.0
   ended_front e Read h = input_front e.source_old e.source_new e.sink_old e.sink_new h.1 h.2
-      (handed_front going q (documents_in going.cutting h.1) None e.sink_old e.sink_new h.3)
+      (handed_front going q (documents_in going.numbering h.1) None e.sink_old e.sink_new h.3)
   ended_front e Write h = h.1
   ended_front e Limit h = h.1
   ended_front e Memory h = h
@@ -91,29 +93,30 @@ module _ (going : Manner) (q : FilteredQuery) where
   ended_front e Settings h = absurd h
 
   module _ (a b s u : Option (List ℕ)) (st : Stream) (h : Stands going q a b s u st) where
-    pub stands_front : IfSome a (λ input. HandedFront going q (documents going.cutting input) s u)
+    pub stands_front : IfSome a (λ input. HandedFront going q (documents going.numbering input) s u)
     stands_front = input_front a b s u (h.front ++ h.more) h.consumed
         (subst (λ (l : List Line). HandedFront going q l s u) (sym (all_documents going q a b s u st h))
-        (front_more going q (documents_in going.cutting h.front) st.buffer.lines s u
-        (handed_front going q (documents_in going.cutting h.front) None s u h.handed)))
+        (front_more going q (documents_in going.numbering h.front) st.buffer.lines s u
+        (handed_front going q (documents_in going.numbering h.front) None s u h.handed)))
 
     waiting_front : (v : Option (List ℕ)) → HandedFront going q st.buffer.lines u v
-        → IfSome a (λ input. HandedFront going q (documents going.cutting input) s v)
+        → IfSome a (λ input. HandedFront going q (documents going.numbering input) s v)
     waiting_front v k = input_front a b s v (h.front ++ h.more) h.consumed
         (subst (λ (l : List Line). HandedFront going q l s v) (sym (all_documents going q a b s u st h))
-        (front_after going q (documents_in going.cutting h.front) st.buffer.lines s u v h.handed k))
+        (front_after going q (documents_in going.numbering h.front) st.buffer.lines s u v h.handed k))
 
     waiting_stopped : (v : Option (List ℕ)) (stop : ℕ × DocFault)
         → Handed going q st.buffer.lines (Some stop) u v
-        → IfSome a (λ input. Handed going q (documents going.cutting input) (Some stop) s v)
-    waiting_stopped v stop k = known (λ input. Handed going q (documents going.cutting input) (Some stop) s v)
+        → IfSome a (λ input. Handed going q (documents going.numbering input) (Some stop) s v)
+    waiting_stopped v stop k = known
+        (λ input. Handed going q (documents going.numbering input) (Some stop) s v)
         a b
         (h.front ++ h.more) h.consumed
-        (λ rest. let more = documents_more going.cutting (h.front ++ h.more) rest in
+        (λ rest. let more = documents_more going.numbering (h.front ++ h.more) rest in
         subst (λ (l : List Line). Handed going q l (Some stop) s v)
         (ap (λ l. l ++ more.0) (sym (all_documents going q a b s u st h)) ∙ sym more.1)
-        (handed_stopped going q (documents_in going.cutting h.front ++ st.buffer.lines) more.0 stop s v
-        (handed_both going q (documents_in going.cutting h.front) st.buffer.lines (Some stop) s u v h.handed
+        (handed_stopped going q (documents_in going.numbering h.front ++ st.buffer.lines) more.0 stop s v
+        (handed_both going q (documents_in going.numbering h.front) st.buffer.lines (Some stop) s u v h.handed
         k)))
 
   -- the lines that waited were not answered to their end
@@ -146,9 +149,9 @@ module _ (going : Manner) (q : FilteredQuery) where
         arith,
         k.2,
         ap (λ c. (fed c st.buffer.progress k.0).count) h.cutting,
-        ap (λ (p : Progress). (fed going.cutting p k.0).count) h.progress,
-        ap (λ (p : Progress). p.count) (fed_twice going.cutting nothing_fed (h.front ++ h.more) k.0),
-        count_below going.cutting ((h.front ++ h.more) ++ k.0),
+        ap (λ (p : Progress). (fed going.numbering.cutting p k.0).count) h.progress,
+        ap (λ (p : Progress). p.count) (progress_both going.numbering (h.front ++ h.more) k.0),
+        count_below going.numbering ((h.front ++ h.more) ++ k.0),
       ),
     ),
     stands_front e.source_old b e.sink_old e.sink_new st h,
@@ -171,7 +174,8 @@ module _ (going : Manner) (q : FilteredQuery) where
     Consumes-kept e.source_old b e.source_new (h.front ++ h.more) h.consumed same,
     subst (λ (l : List Line). Handed going q l None e.sink_old e.sink_new)
         (sym (all_documents going q e.source_old b e.sink_old u st h))
-        (handed_both going q (documents_in going.cutting h.front) st.buffer.lines None e.sink_old u e.sink_new
+        (handed_both going q (documents_in going.numbering h.front) st.buffer.lines None e.sink_old u
+        e.sink_new
         h.handed m),
   )
   failure_ended e b u st (Document line fault) h k same m = waiting_ended e b u st (Document line fault) h m
@@ -188,109 +192,115 @@ module _ (going : Manner) (q : FilteredQuery) where
       rest : List Line
       rest = st.buffer.lines ++ finished_lines st.buffer.progress
 
-      lines_are : documents going.cutting (h.front ++ h.more) ≡ documents_in going.cutting h.front ++ rest
+      lines_are : documents going.numbering (h.front ++ h.more) ≡ documents_in going.numbering h.front ++ rest
       unfolding rest
-      lines_are = documents_whole going.cutting (h.front ++ h.more)
-          ∙ ap (λ l. l ++ finished_lines (fed going.cutting nothing_fed (h.front ++ h.more)))
+      lines_are = documents_whole going.numbering (h.front ++ h.more)
+          ∙ ap (λ l. l ++ finished_lines (progress_in going.numbering (h.front ++ h.more)))
           (all_documents going q a b s u st h)
-          ∙ append_assoc (documents_in going.cutting h.front) st.buffer.lines
-          (finished_lines (fed going.cutting nothing_fed
+          ∙ append_assoc (documents_in going.numbering h.front) st.buffer.lines
+          (finished_lines (progress_in going.numbering
           (h.front ++ h.more)))
-          ∙ ap (λ (p : Progress). documents_in going.cutting h.front ++ (st.buffer.lines ++ finished_lines p))
+          ∙ ap (λ (p : Progress). documents_in going.numbering h.front
+          ++ (st.buffer.lines ++ finished_lines p))
           (sym h.progress)
 
       rest_front : HandedFront going q (st.buffer.lines ++ finished_lines st.buffer.progress) u v
-          → IfSome a (λ input. HandedFront going q (documents going.cutting input) s v)
+          → IfSome a (λ input. HandedFront going q (documents going.numbering input) s v)
       unfolding rest
-      rest_front k = known_all (λ input. HandedFront going q (documents going.cutting input) s v) a b (h.front
+      rest_front k = known_all (λ input. HandedFront going q (documents going.numbering input) s v) a b
+          (h.front
           ++ h.more)
           h.consumed end
           (subst (λ (l : List Line). HandedFront going q l s v) (sym lines_are)
-          (front_after going q (documents_in going.cutting h.front) rest s u v h.handed k))
+          (front_after going q (documents_in going.numbering h.front) rest s u v h.handed k))
 
       rest_handed : (stop : Option (ℕ × DocFault))
           → Handed going q (st.buffer.lines ++ finished_lines st.buffer.progress) stop u v
-          → IfSome a (λ input. Handed going q (documents going.cutting input) stop s v)
+          → IfSome a (λ input. Handed going q (documents going.numbering input) stop s v)
       unfolding rest
-      rest_handed stop k = known_all (λ input. Handed going q (documents going.cutting input) stop s v) a b
+      rest_handed stop k = known_all (λ input. Handed going q (documents going.numbering input) stop s v) a b
           (h.front ++ h.more) h.consumed end
           (subst (λ (l : List Line). Handed going q l stop s v) (sym lines_are)
-          (handed_both going q (documents_in going.cutting h.front) rest stop s u v h.handed k))
+          (handed_both going q (documents_in going.numbering h.front) rest stop s u v h.handed k))
 
-      rest_counts : (all seen : ℕ) → all ≡ (finished st.buffer.progress).count
+      rest_counts : (all seen : ℕ) → all + going.numbering.before ≡ (finished st.buffer.progress).count
           → seen ≡ st.answered.lines
           + length (st.buffer.lines ++ finished_lines st.buffer.progress)
-          → IfSome a (λ input. (all ≡ part_count going.cutting input)
-          × (seen ≡ length (documents going.cutting input)))
+          → IfSome a (λ input. (all ≡ part_count going.numbering.cutting input)
+          × (seen ≡ length (documents going.numbering input)))
       unfolding rest
       rest_counts all seen e f = known_all
-          (λ input. (all ≡ part_count going.cutting input) × (seen
-          ≡ length (documents going.cutting input))) a b (h.front ++ h.more)
+          (λ input. (all ≡ part_count going.numbering.cutting input) × (seen
+          ≡ length (documents going.numbering input))) a b (h.front ++ h.more)
           h.consumed end (
-            e ∙ ap (λ (p : Progress). (finished p).count) h.progress
-                ∙ count_whole going.cutting (h.front ++ h.more),
+            omega (
+              arith,
+              e,
+              ap (λ (p : Progress). (finished p).count) h.progress,
+              count_whole going.numbering (h.front ++ h.more),
+            ),
             omega (
               arith,
               f,
               h.lines,
               ap length lines_are,
-              length-append (documents_in going.cutting h.front)
+              length-append (documents_in going.numbering h.front)
                   rest,
             ),
           )
 
       rest_passed : (faulty : ℕ) → faulty ≡ st.answered.faulty
           + passed_in going.policy (st.buffer.lines ++ finished_lines st.buffer.progress)
-          → IfSome a (λ input. faulty ≡ passed_in going.policy (documents going.cutting input))
+          → IfSome a (λ input. faulty ≡ passed_in going.policy (documents going.numbering input))
       unfolding rest
       rest_passed faulty e = known_all (λ input. faulty ≡ passed_in going.policy
-          (documents going.cutting input)) a b
+          (documents going.numbering input)) a b
           (h.front ++ h.more) h.consumed end (omega (
             arith,
             e,
             h.faulty,
             ap (passed_in going.policy) lines_are,
-            passed_joined going.policy (documents_in going.cutting h.front) rest,
+            passed_joined going.policy (documents_in going.numbering h.front) rest,
           ))
 
       pub faulty_ok : {E : Type 0} (r : Result Totals E)
           → IfOk r (λ t. t.faulty ≡ st.answered.faulty
           + passed_in going.policy (st.buffer.lines ++ finished_lines st.buffer.progress))
           → IfOk r (λ t. IfSome a (λ input. t.faulty ≡ passed_in going.policy
-          (documents going.cutting input)))
+          (documents going.numbering input)))
       faulty_ok (Ok t) k = rest_passed t.faulty k
       faulty_ok (Err f) k = tt
 
       rest_wrote : (wrote : Bool)
           → HasBytesMore going q (st.buffer.lines ++ finished_lines st.buffer.progress)
           st.answered.wrote wrote
-          → IfSome a (λ input. HasBytes going q (documents going.cutting input) wrote)
+          → IfSome a (λ input. HasBytes going q (documents going.numbering input) wrote)
       unfolding rest
-      rest_wrote wrote k = known_all (λ input. HasBytes going q (documents going.cutting input) wrote) a b
+      rest_wrote wrote k = known_all (λ input. HasBytes going q (documents going.numbering input) wrote) a b
           (h.front ++ h.more)
           h.consumed end (subst (λ (l : List Line). HasBytes going q l wrote) (sym lines_are)
-          (wrote_more going q (documents_in going.cutting h.front) rest s u st.answered.wrote wrote h.handed
+          (wrote_more going q (documents_in going.numbering h.front) rest s u st.answered.wrote wrote h.handed
           h.wrote k))
 
       pub wrote_ok : {E : Type 0} (r : Result Totals E)
           → IfOk r (λ t. HasBytesMore going q (st.buffer.lines ++ finished_lines st.buffer.progress)
           st.answered.wrote t.wrote)
-          → IfOk r (λ t. IfSome a (λ input. HasBytes going q (documents going.cutting input) t.wrote))
+          → IfOk r (λ t. IfSome a (λ input. HasBytes going q (documents going.numbering input) t.wrote))
       wrote_ok (Ok t) k = rest_wrote t.wrote k
       wrote_ok (Err f) k = tt
 
       pub rest_ok : {T E : Type 0} (r : Result T E)
           → OnOk r (Handed going q (st.buffer.lines ++ finished_lines st.buffer.progress) None u v)
-          → OnOk r (IfSome a (λ input. Handed going q (documents going.cutting input) None s v))
+          → OnOk r (IfSome a (λ input. Handed going q (documents going.numbering input) None s v))
       rest_ok (Ok x) k = rest_handed None k
       rest_ok (Err f) k = tt
 
       pub totals_ok : {E : Type 0} (r : Result Totals E)
-          → IfOk r (λ t. t.lines ≡ (finished st.buffer.progress).count)
+          → IfOk r (λ t. t.lines + going.numbering.before ≡ (finished st.buffer.progress).count)
           → IfOk r (λ t. t.documents ≡ st.answered.lines
           + length (st.buffer.lines ++ finished_lines st.buffer.progress))
-          → IfOk r (λ t. IfSome a (λ input. (t.lines ≡ part_count going.cutting input)
-          × (t.documents ≡ length (documents going.cutting input))))
+          → IfOk r (λ t. IfSome a (λ input. (t.lines ≡ part_count going.numbering.cutting input)
+          × (t.documents ≡ length (documents going.numbering input))))
       totals_ok (Ok t) k m = rest_counts t.lines t.documents k m
       totals_ok (Err f) k m = tt
 
@@ -313,7 +323,7 @@ module _ (going : Manner) (q : FilteredQuery) where
         arith,
         k.0,
         ap (λ (p : Progress). (finished p).count) h.progress,
-        count_whole going.cutting (h.front ++ h.more),
+        count_whole going.numbering (h.front ++ h.more),
       ),
     ),
     rest_front e.source_old e.source_new e.sink_old u e.sink_new st h end k.1,

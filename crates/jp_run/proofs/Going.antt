@@ -4,7 +4,7 @@ use Rattle.std.proofs.Common.{inr, refl, sym, ◌∙◌, ap, subst, arith, appen
 use Rattle.std.specs.Io.KnownBytes.{Consumes}
 use Rattle.std.proofs.KnownBytes.{Consumes-trans}
 use Rattle.jp_doc.specs.Lines.{Line}
-use Rattle.jp_doc.specs.Feeding.{Progress, nothing_fed}
+use Rattle.jp_doc.specs.Feeding.{Progress}
 use Rattle.jp_answer.specs.FilteredQuery.{FilteredQuery}
 use Rattle.jp_output.specs.declared.form.Form as form
 use Rattle.jp_answer.below.jp_node.specs.declared.visit.Visit as visit
@@ -14,7 +14,7 @@ use Rattle.jp_answer.specs.declared.queue.Queue.{Queue}
 use Rattle.jp_answer.specs.declared.queue.Sent.{Sent}
 use Rattle.jp_answer.proofs.OnFaults.{passed_joined}
 use Rattle.jp_run.specs.Manner.{Manner}
-use Rattle.jp_run.specs.Cutting.{documents_in, fed, fed_lines}
+use Rattle.jp_run.specs.Cutting.{documents_in, fed, fed_lines, progress_in}
 use Rattle.jp_run.specs.Handed.{Handed}
 use Rattle.jp_run.specs.inner.Ended.{Ends, AnswerEnded, StreamEnded}
 use Rattle.jp_run.specs.inner.Going.{all_bytes, IsSent, AreSent, Goes, HasWritten}
@@ -28,10 +28,10 @@ use Rattle.jp_run.specs.declared.fault.RunFault.TheVariants.{Memory}
 use Rattle.jp_run.specs.Limits.{max_lines}
 use Rattle.jp_run.specs.declared.stream.Answered.{Answered}
 use Rattle.jp_run.specs.declared.stream.Stream.{Stream}
-use Rattle.jp_run.proofs.Coming.{documents_both}
+use Rattle.jp_run.proofs.Coming.{documents_both, progress_both}
 use Rattle.jp_run.proofs.Ending.{stands_front, waiting_ended}
 use Rattle.jp_run.proofs.Handing.{handed_both, ended_more}
-use Rattle.jp_run.proofs.Pieces.{lines_twice, fed_twice, lines_nothing}
+use Rattle.jp_run.proofs.Pieces.{lines_twice, lines_nothing}
 use Rattle.jp_run.proofs.Standing.{few_faulty, few_lines, settled}
 use Rattle.jp_answer.specs.Asking.{asked_query}
 use Rattle.jp_run.proofs.Wrote.{wrote_more}
@@ -46,16 +46,17 @@ module _ {F : Type 0} {g : form.Ghosts F} {v : visit.Ghosts F} where
   -- the lines of blocks are those that their pieces complete
   sent_waiting : (going : Manner) (q : FilteredQuery) (before : List ℕ) (pieces : List (List ℕ))
       (out : List (Sent F g v)) → AreSent going q before pieces out
-      → sent_lines out ≡ fed_lines going.cutting (fed going.cutting nothing_fed before) (all_bytes pieces)
-  sent_waiting going q before [] [] h = sym (lines_nothing going.cutting before)
+      → sent_lines out
+      ≡ fed_lines going.numbering.cutting (progress_in going.numbering before) (all_bytes pieces)
+  sent_waiting going q before [] [] h = sym (lines_nothing going.numbering before)
   sent_waiting going q before [] (s ∷ out) h = absurd h
   sent_waiting going q before (p ∷ pieces) [] h = absurd h
   sent_waiting going q before (p ∷ pieces) (s ∷ out) h = ap (λ l. l ++ sent_lines out) h.0.lines
-      ∙ ap (λ l. fed_lines going.cutting (fed going.cutting nothing_fed before) p ++ l)
+      ∙ ap (λ l. fed_lines going.numbering.cutting (progress_in going.numbering before) p ++ l)
       (sent_waiting going q (before ++ p) pieces out h.1
-      ∙ ap (λ (k : Progress). fed_lines going.cutting k (all_bytes pieces))
-      (fed_twice going.cutting nothing_fed before p))
-      ∙ sym (lines_twice going.cutting (fed going.cutting nothing_fed before) p (all_bytes pieces))
+      ∙ ap (λ (k : Progress). fed_lines going.numbering.cutting k (all_bytes pieces))
+      (progress_both going.numbering before p))
+      ∙ sym (lines_twice going.numbering.cutting (progress_in going.numbering before) p (all_bytes pieces))
 
   -- one more block
   sent_more : (going : Manner) (q : FilteredQuery) (before : List ℕ) (pieces : List (List ℕ)) (piece : List ℕ)
@@ -106,7 +107,7 @@ module _ {F : Type 0} {g : form.Ghosts F} {v : visit.Ghosts F} where
       cutting = h.cutting;
       progress = h.progress;
       sent = tt;
-      waiting = h.waiting ∙ ap (λ l. fed_lines going.cutting (fed going.cutting nothing_fed l) h.more)
+      waiting = h.waiting ∙ ap (λ l. fed_lines going.numbering.cutting (progress_in going.numbering l) h.more)
           (sym (append-nil h.front));
       bytes_are = refl;
       come = h.come;
@@ -137,11 +138,13 @@ module _ {F : Type 0} {g : form.Ghosts F} {v : visit.Ghosts F} where
         cutting = h.cutting;
         progress = h.progress;
         waiting = ap (λ l. l ++ st.buffer.lines) (sent_waiting going q h.front h.pieces out h.sent)
-            ∙ ap (λ l. fed_lines going.cutting (fed going.cutting nothing_fed h.front) (all_bytes h.pieces)
+            ∙ ap (λ l. fed_lines going.numbering.cutting (progress_in going.numbering h.front)
+            (all_bytes h.pieces)
             ++ l) (h.waiting
-            ∙ ap (λ (k : Progress). fed_lines going.cutting k h.last)
-            (fed_twice going.cutting nothing_fed h.front (all_bytes h.pieces)))
-            ∙ sym (lines_twice going.cutting (fed going.cutting nothing_fed h.front) (all_bytes h.pieces)
+            ∙ ap (λ (k : Progress). fed_lines going.numbering.cutting k h.last)
+            (progress_both going.numbering h.front (all_bytes h.pieces)))
+            ∙ sym (lines_twice going.numbering.cutting (progress_in going.numbering h.front)
+            (all_bytes h.pieces)
             h.last);
         come = h.come;
         lines = h.lines;
@@ -170,18 +173,20 @@ module _ {F : Type 0} {g : form.Ghosts F} {v : visit.Ghosts F} where
                 r.consumed);
             cutting = r.cutting ∙ h.cutting;
             progress = r.progress ∙ ap (λ c. fed c st.buffer.progress r.piece) h.cutting
-                ∙ ap (λ (p : Progress). fed going.cutting p r.piece) h.progress
-                ∙ sym (fed_twice going.cutting nothing_fed (h.front
+                ∙ ap (λ (p : Progress). fed going.numbering.cutting p r.piece) h.progress
+                ∙ sym (progress_both going.numbering (h.front
                 ++ (all_bytes h.pieces ++ h.last)) r.piece)
-                ∙ ap (λ l. fed going.cutting nothing_fed l) cut;
+                ∙ ap (λ l. progress_in going.numbering l) cut;
             sent = h.sent;
             waiting = r.lines ∙ ap (λ c. st.buffer.lines ++ fed_lines c st.buffer.progress r.piece) h.cutting
-                ∙ ap (λ l. l ++ fed_lines going.cutting st.buffer.progress r.piece) h.waiting
-                ∙ ap (λ (p : Progress). fed_lines going.cutting (fed going.cutting nothing_fed before) h.last
-                ++ fed_lines going.cutting p r.piece)
-                (h.progress ∙ ap (λ l. fed going.cutting nothing_fed l) whole
-                ∙ fed_twice going.cutting nothing_fed before h.last)
-                ∙ sym (lines_twice going.cutting (fed going.cutting nothing_fed before) h.last r.piece);
+                ∙ ap (λ l. l ++ fed_lines going.numbering.cutting st.buffer.progress r.piece) h.waiting
+                ∙ ap (λ (p : Progress). fed_lines going.numbering.cutting
+                (progress_in going.numbering before) h.last
+                ++ fed_lines going.numbering.cutting p r.piece)
+                (h.progress ∙ ap (λ l. progress_in going.numbering l) whole
+                ∙ progress_both going.numbering before h.last)
+                ∙ sym (lines_twice going.numbering.cutting (progress_in going.numbering before) h.last
+                r.piece);
             bytes_are = h.bytes_are;
             come = omega (
               arith,
@@ -211,7 +216,7 @@ module _ {F : Type 0} {g : form.Ghosts F} {v : visit.Ghosts F} where
           last = [];
           consumed = subst (λ l. Consumes a b (h.front ++ l)) whole h.consumed;
           cutting = k.cutting ∙ h.cutting;
-          progress = k.progress ∙ h.progress ∙ ap (λ l. fed going.cutting nothing_fed (h.front ++ l)) whole;
+          progress = k.progress ∙ h.progress ∙ ap (λ l. progress_in going.numbering (h.front ++ l)) whole;
           sent = subst (λ (l : List (Sent F g v)). AreSent going q h.front (h.pieces ++ h.last ∷ []) l)
               (sym k.out) (sent_more going q h.front h.pieces h.last o.sent.items k.sent h.sent
               (record {
@@ -224,9 +229,9 @@ module _ {F : Type 0} {g : form.Ghosts F} {v : visit.Ghosts F} where
                   length-append (all_bytes h.pieces) h.last,
                 );
                 query = ap asked_query k.asked ∙ asks.0;
-                manner_is = ap (manner_asked g going.cutting) k.asked ∙ asks.1;
+                manner_is = ap (manner_asked g going.numbering) k.asked ∙ asks.1;
               }));
-          waiting = k.none ∙ sym (lines_nothing going.cutting
+          waiting = k.none ∙ sym (lines_nothing going.numbering
               (h.front ++ all_bytes (h.pieces ++ h.last ∷ [])));
           bytes_are = omega (arith, k.all_bytes_out, h.come, ap length more);
           come = omega (arith, k.come, h.come, ap length whole);
@@ -250,7 +255,7 @@ module _ {F : Type 0} {g : form.Ghosts F} {v : visit.Ghosts F} where
     first = first_of going q h.front h.pieces f out h.sent
 
     -- what the block asks is asked in this run
-    asked_handed : (w : Option (List ℕ)) → Handed (manner_asked g going.cutting (sent_task f).asked)
+    asked_handed : (w : Option (List ℕ)) → Handed (manner_asked g going.numbering (sent_task f).asked)
         (asked_query (sent_task f).asked) (sent_task f).lines None u w
         → Handed going q (sent_task f).lines None u w
     asked_handed w k = subst (λ (r : FilteredQuery). Handed going r (sent_task f).lines None u w)
@@ -259,7 +264,7 @@ module _ {F : Type 0} {g : form.Ghosts F} {v : visit.Ghosts F} where
         first.is_sent.manner_is k)
 
     pub asked_ended : (w : Option (List ℕ)) (failed : Bool) (fault : RunFault)
-        → AnswerEnded (manner_asked g going.cutting (sent_task f).asked)
+        → AnswerEnded (manner_asked g going.numbering (sent_task f).asked)
         (asked_query (sent_task f).asked) (sent_task f).lines failed u w fault
         → AnswerEnded going q (sent_task f).lines failed u w fault
     asked_ended w failed fault k =
@@ -269,10 +274,10 @@ module _ {F : Type 0} {g : form.Ghosts F} {v : visit.Ghosts F} where
         first.is_sent.manner_is k)
 
     pub goes_written : (next : Stream) (m : ℕ) (w : Option (List ℕ))
-        → HasWritten (manner_asked g going.cutting (sent_task f).asked)
+        → HasWritten (manner_asked g going.numbering (sent_task f).asked)
         (asked_query (sent_task f).asked)
         f st next → m + f.bytes ≡ n
-        → Handed (manner_asked g going.cutting (sent_task f).asked)
+        → Handed (manner_asked g going.numbering (sent_task f).asked)
         (asked_query (sent_task f).asked)
         (sent_task f).lines None u w → Goes going q a b s w next out m
     goes_written next m w written e handed =
@@ -287,9 +292,9 @@ module _ {F : Type 0} {g : form.Ghosts F} {v : visit.Ghosts F} where
         let cut : h.front ++ (all_bytes h.pieces ++ h.last) ≡ (h.front ++ p) ++ (rest ++ h.last) =
         ap (λ l. h.front ++ (l ++ h.last)) are ∙ ap (λ l. h.front ++ l) (append_assoc p rest h.last)
         ∙ sym (append_assoc h.front p (rest ++ h.last)) in
-        let lines_are : documents_in going.cutting (h.front ++ p) ≡ documents_in going.cutting h.front
+        let lines_are : documents_in going.numbering (h.front ++ p) ≡ documents_in going.numbering h.front
         ++ (sent_task f).lines =
-        documents_both going.cutting h.front p ∙ ap (λ l. documents_in going.cutting h.front
+        documents_both going.numbering h.front p ∙ ap (λ l. documents_in going.numbering h.front
         ++ l) (sym first.is_sent.lines) in
         record {
           front = h.front ++ p;
@@ -298,10 +303,10 @@ module _ {F : Type 0} {g : form.Ghosts F} {v : visit.Ghosts F} where
           consumed = subst (λ l. Consumes a b l) cut h.consumed;
           cutting = ap (λ (i : Input). i.cutting) k.buffer ∙ h.cutting;
           progress = ap (λ (i : Input). i.progress) k.buffer ∙ h.progress ∙ ap
-              (λ l. fed going.cutting nothing_fed l) cut;
+              (λ l. progress_in going.numbering l) cut;
           sent = first.are_sent;
           waiting = ap (λ (i : Input). i.lines) k.buffer ∙ h.waiting
-              ∙ ap (λ l. fed_lines going.cutting (fed going.cutting nothing_fed l) h.last) (ap
+              ∙ ap (λ l. fed_lines going.numbering.cutting (progress_in going.numbering l) h.last) (ap
               (λ l. h.front ++ l) are
               ∙ sym (append_assoc h.front p rest));
           bytes_are = omega (
@@ -327,20 +332,20 @@ module _ {F : Type 0} {g : form.Ghosts F} {v : visit.Ghosts F} where
             k.lines,
             h.lines,
             ap length lines_are,
-            length-append (documents_in going.cutting h.front) (sent_task f).lines,
+            length-append (documents_in going.numbering h.front) (sent_task f).lines,
           );
           faulty = omega (
             arith,
             k.faulty,
             h.faulty,
             ap (passed_in going.policy) lines_are,
-            passed_joined going.policy (documents_in going.cutting h.front) (sent_task f).lines,
+            passed_joined going.policy (documents_in going.numbering h.front) (sent_task f).lines,
           );
           wrote = subst (λ (l : List Line). HasBytes going q l next.answered.wrote)
-              (sym lines_are) (wrote_more going q (documents_in going.cutting h.front) (sent_task f).lines s
+              (sym lines_are) (wrote_more going q (documents_in going.numbering h.front) (sent_task f).lines s
               u st.answered.wrote next.answered.wrote h.handed h.wrote k.wrote);
           handed = subst (λ (l : List Line). Handed going q l None s w) (sym lines_are)
-              (handed_both going q (documents_in going.cutting h.front) (sent_task f).lines None s u w
+              (handed_both going q (documents_in going.numbering h.front) (sent_task f).lines None s u w
               h.handed done);
         }
 
@@ -478,5 +483,5 @@ module _ {F : Type 0} {g : form.Ghosts F} {v : visit.Ghosts F} where
     h.1,
     h.2,
     k h.0 h.1 h.2 h.3,
-    (ap asked_query e ∙ h.4.0, ap (manner_asked g going.cutting) e ∙ h.4.1),
+    (ap asked_query e ∙ h.4.0, ap (manner_asked g going.numbering) e ∙ h.4.1),
   )

@@ -7,6 +7,7 @@ pub mod Ending
 pub mod Going
 pub mod Handed
 pub mod Handing
+pub mod Parts
 pub mod Pieces
 pub mod ReadingOn
 pub mod Readings

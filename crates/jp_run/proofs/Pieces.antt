@@ -1,9 +1,9 @@
 -- Bytes that are fed in two pieces.
 use Rattle.std.proofs.Common.{◌≡◌, ℕ, ◌+◌, List, [], ◌++◌, length, sym, ◌∙◌, ap, arith, append_assoc}
 use Rattle.std.proofs.Common.{append-nil, length-append}
-use Rattle.jp_doc.specs.Feeding.{Cut, Progress, nothing_fed, numbered}
+use Rattle.jp_doc.specs.Feeding.{Cut, Progress, numbered}
 use Rattle.jp_doc.proofs.CutLaws.{numbered_both}
-use Rattle.jp_run.specs.Cutting.{cut, fed, fed_lines}
+use Rattle.jp_run.specs.Cutting.{Numbering, cut, fed, fed_lines, progress_in}
 use Rattle.jp_run.specs.declared.cutting.Cutting.{Cutting}
 use Rattle.jp_run.proofs.Cuttings.{cut_again, cut_both}
 
@@ -29,8 +29,8 @@ fed_twice c p a b =
     ∙ ap (λ k. record { count = k; open_line = later.open_line }) counts
 
 -- nothing more ends in no bytes
-pub lines_nothing : (c : Cutting) (bytes : List ℕ) → fed_lines c (fed c nothing_fed bytes) [] ≡ []
-lines_nothing c bytes =
-    let p : Progress = fed c nothing_fed bytes in
-    ap (λ l. numbered (p.count + 1) (cut c l).ended) (append-nil (cut c bytes).open_line)
-    ∙ ap (λ (k : Cut). numbered (p.count + 1) k.ended) (cut_again c bytes)
+pub lines_nothing : (n : Numbering) (bytes : List ℕ) → fed_lines n.cutting (progress_in n bytes) [] ≡ []
+lines_nothing n bytes =
+    let p : Progress = progress_in n bytes in
+    ap (λ l. numbered (p.count + 1) (cut n.cutting l).ended) (append-nil (cut n.cutting bytes).open_line)
+    ∙ ap (λ (k : Cut). numbered (p.count + 1) k.ended) (cut_again n.cutting bytes)

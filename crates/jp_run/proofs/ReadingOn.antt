@@ -6,7 +6,7 @@ use Rattle.jp_doc.specs.Feeding.{Progress}
 use Rattle.jp_output.specs.declared.form.Form as form
 use Rattle.jp_answer.below.jp_node.specs.declared.visit.Visit as visit
 use Rattle.jp_answer.specs.declared.queue.Queue.{Queue}
-use Rattle.jp_run.specs.Answered.{manner_in}
+use Rattle.jp_run.specs.Answered.{manner_in, numbering_of}
 use Rattle.jp_run.specs.Begun.{OneMore}
 use Rattle.jp_run.specs.Counts.{counted}
 use Rattle.jp_run.specs.Limits.{max_lines, window as window_bytes}
@@ -93,7 +93,7 @@ module _ {R G S K F : Type 0} {source : supply.Ghosts S} {k : sink.Ghosts K} {g 
       goes = λ old sink_old st. e.going old (source.remaining b) sink_old (h.goes old sink_old st);
       asks = (
         ap asked_query e.asked ∙ h.asks.0,
-        ap (manner_asked g job.settings.cutting) e.asked ∙ h.asks.1,
+        ap (manner_asked g (numbering_of job.settings)) e.asked ∙ h.asks.1,
       );
       few_lines = subst (λ (m : Progress). m.count ≤ max_lines) (sym e.progress) h.few_lines;
       reads = ap (λ m. source.reads b + m) e.left ∙ h.reads;

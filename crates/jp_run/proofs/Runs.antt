@@ -14,7 +14,7 @@ use Rattle.jp_answer.specs.FilteredQuery.{FilteredQuery}
 use Rattle.jp_run.specs.AskedTexts.{AskedTexts, AreAcceptedIn}
 use Rattle.jp_run.specs.Forms.{form_of}
 use Rattle.jp_run.specs.Manner.{Manner, manner}
-use Rattle.jp_run.specs.Answered.{IsAnswerBy, head_of, manner_of}
+use Rattle.jp_run.specs.Answered.{IsAnswerBy, head_of, manner_of, numbering_of}
 use Rattle.jp_run.specs.Cutting.{documents}
 use Rattle.jp_answer.specs.Policy.{policy}
 use Rattle.jp_answer.specs.declared.on_fault.OnFault.{OnFault}
@@ -82,22 +82,22 @@ module _ (going : Manner) (asked : AskedTexts) (q : FilteredQuery)
     (accepted : AreAcceptedIn going.policy.numbers asked q) where
   -- the answer that was handed out is that to the text
   pub answer_known : (stop : Option (ℕ × DocFault)) (known s u : Option (List ℕ))
-      → IfSome known (λ input. Handed going q (documents going.cutting input) stop s u)
+      → IfSome known (λ input. Handed going q (documents going.numbering input) stop s u)
       → IfSome known (λ input. (a : Answer) × IsAnswerBy going asked input a × (a.stopped ≡ stop)
       × Appends s u a.bytes)
   answer_known stop None s u h = tt
   answer_known stop (Some input) s u h = (h.whole, (q, accepted, h.is), h.stopped, h.appended)
 
   pub answer_ok : {T : Type 0} (r : Result T RunFault) (known s u : Option (List ℕ))
-      → OnOk r (IfSome known (λ input. Handed going q (documents going.cutting input) None s u))
+      → OnOk r (IfSome known (λ input. Handed going q (documents going.numbering input) None s u))
       → OnOk r (IfSome known (λ input. (a : Answer) × IsAnswerBy going asked input a × (a.stopped ≡ None)
       × Appends s u a.bytes))
   answer_ok (Ok x) known s u h = answer_known None known s u h
   answer_ok (Err f) known s u h = tt
 
   pub answer_wrote : (r : Result Totals RunFault) (known s u : Option (List ℕ))
-      → OnOk r (IfSome known (λ input. Handed going q (documents going.cutting input) None s u))
-      → IfOk r (λ totals. IfSome known (λ input. HasBytes going q (documents going.cutting input)
+      → OnOk r (IfSome known (λ input. Handed going q (documents going.numbering input) None s u))
+      → IfOk r (λ totals. IfSome known (λ input. HasBytes going q (documents going.numbering input)
       totals.wrote))
       → IfOk r (λ totals. IfSome known (λ input. (a : Answer) × IsAnswerBy going asked input a
       × (totals.wrote ≡ nat_lt 0 (length a.bytes))))
@@ -111,15 +111,15 @@ module _ (going : Manner) (asked : AskedTexts) (q : FilteredQuery)
   answer_wrote (Err f) known s u h k = tt
 
   answer_is : (input : List ℕ) (b : Answer) → IsAnswerBy going asked input b
-      → answer_by going.form going.policy right_tests.0 q (documents going.cutting input) ≡ b
+      → answer_by going.form going.policy right_tests.0 q (documents going.numbering input) ≡ b
   answer_is input b h =
       let same : q ≡ h.0 = one_asked going.policy.numbers asked q h.0 accepted h.1 in
-      ap (λ q. answer_by going.form going.policy right_tests.0 q (documents going.cutting input)) same
+      ap (λ q. answer_by going.form going.policy right_tests.0 q (documents going.numbering input)) same
       ∙ h.2 right_tests.0
       right_tests.1
 
   front_known : (known s u : Option (List ℕ))
-      → IfSome known (λ input. HandedFront going q (documents going.cutting input) s u)
+      → IfSome known (λ input. HandedFront going q (documents going.numbering input) s u)
       → IfSome known (λ input. (b : Answer) → IsAnswerBy going asked input b → AppendsFront s u b.bytes)
   front_known None s u h = tt
   front_known (Some input) s u h = λ b is. subst (λ (b : Answer). AppendsFront s u b.bytes)
@@ -146,11 +146,11 @@ module _ (going : Manner) (asked : AskedTexts) (q : FilteredQuery)
 -- what is done in a form is done by the settings that name it
 pub ran_in : {R G S K : Type 0} {source : supply.Ghosts S} {k : sink.Ghosts K} {job : Job R G} {a b : S}
     {u w : K} {r : Result Totals RunFault} (named : Output) → job.settings.output ≡ named
-    → HasRun (manner job.settings.cutting (form_of named (head_of job.settings))
+    → HasRun (manner (numbering_of job.settings) (form_of named (head_of job.settings))
     (policy job.settings.numbers job.settings.on_fault)) source k job a b u w r
     → HasRun (manner_of job.settings) source k job a b u w r
 ran_in {source = source} {k = k} {job = job} {a = a} {b = b} {u = u} {w = w} {r = r} named is =
-    subst (λ (o : Output). HasRun (manner job.settings.cutting (form_of o (head_of job.settings))
+    subst (λ (o : Output). HasRun (manner (numbering_of job.settings) (form_of o (head_of job.settings))
     (policy job.settings.numbers job.settings.on_fault)) source k job a b u w r) (sym is)
 
 -- a run that a fault has ended

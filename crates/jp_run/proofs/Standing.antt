@@ -6,13 +6,13 @@ use Rattle.std.proofs.lemmas.List.{nil_from_length}
 use Rattle.std.specs.Io.KnownBytes.{Consumes, IsAtEnd, Keeps}
 use Rattle.std.proofs.KnownBytes.{Consumes-nil, Consumes-trans, Appends-nil, Appends-kept}
 use Rattle.jp_doc.specs.Lines.{Line}
-use Rattle.jp_doc.specs.Feeding.{Progress, nothing_fed}
+use Rattle.jp_doc.specs.Feeding.{Progress}
 use Rattle.jp_answer.specs.FilteredQuery.{FilteredQuery}
 use Rattle.jp_answer.specs.Answer.{nothing}
 use Rattle.jp_answer.specs.Policy.{passed_in}
 use Rattle.jp_answer.proofs.OnFaults.{nothing_in, passed_joined, passed_few, passed_none}
 use Rattle.jp_run.specs.Manner.{Manner}
-use Rattle.jp_run.specs.Cutting.{documents_in, fed, fed_lines}
+use Rattle.jp_run.specs.Cutting.{documents_in, fed, fed_lines, progress_in}
 use Rattle.jp_run.specs.Handed.{Handed}
 use Rattle.jp_run.specs.Limits.{max_lines}
 use Rattle.jp_run.specs.inner.Input.{Input, nothing_come}
@@ -23,15 +23,15 @@ use Rattle.jp_run.specs.declared.gathering.Came.{Came}
 use Rattle.jp_run.specs.declared.gathering.Came.TheVariants.{More, End, Failure}
 use Rattle.jp_run.specs.declared.stream.Answered.{Answered}
 use Rattle.jp_run.specs.declared.stream.Stream.{Stream}
-use Rattle.jp_run.proofs.Coming.{documents_both, few_documents}
+use Rattle.jp_run.proofs.Coming.{documents_both, few_documents, progress_both}
 use Rattle.jp_run.proofs.Cuttings.{documents_nothing, fed_nothing}
 use Rattle.jp_run.proofs.Handing.{handed_both}
-use Rattle.jp_run.proofs.Pieces.{lines_twice, fed_twice, lines_nothing}
+use Rattle.jp_run.proofs.Pieces.{lines_twice, lines_nothing}
 use Rattle.jp_run.proofs.Wrote.{wrote_none, wrote_more}
 
 module _ (going : Manner) (q : FilteredQuery) where
   pub stands_start : (a s u : Option (List ℕ)) (st : Stream) → Keeps s u
-      → st.buffer ≡ nothing_come going.cutting → st.come ≡ 0
+      → st.buffer ≡ nothing_come going.numbering → st.come ≡ 0
       → st.answered ≡ record { lines = 0; faulty = 0; wrote = false }
       → Stands going q a a s u st
   stands_start a s u st same e g h = record {
@@ -39,16 +39,16 @@ module _ (going : Manner) (q : FilteredQuery) where
     more = [];
     consumed = Consumes-nil a;
     cutting = ap (λ (b : Input). b.cutting) e;
-    progress = ap (λ (b : Input). b.progress) e ∙ sym (fed_nothing going.cutting);
-    waiting = ap (λ (b : Input). b.lines) e ∙ sym (lines_nothing going.cutting []);
+    progress = ap (λ (b : Input). b.progress) e ∙ sym (fed_nothing going.numbering);
+    waiting = ap (λ (b : Input). b.lines) e ∙ sym (lines_nothing going.numbering []);
     come = g;
-    lines = ap (λ (n : Answered). n.lines) h ∙ ap length (sym (documents_nothing going.cutting));
+    lines = ap (λ (n : Answered). n.lines) h ∙ ap length (sym (documents_nothing going.numbering));
     faulty = ap (λ (n : Answered). n.faulty) h ∙ sym (passed_none going.policy)
-        ∙ ap (passed_in going.policy) (sym (documents_nothing going.cutting));
+        ∙ ap (passed_in going.policy) (sym (documents_nothing going.numbering));
     wrote = subst (λ (l : List Line). HasBytes going q l st.answered.wrote)
-        (sym (documents_nothing going.cutting))
+        (sym (documents_nothing going.numbering))
         (λ t right. ap (λ (n : Answered). n.wrote) h ∙ wrote_none going q t right);
-    handed = subst (λ (l : List Line). Handed going q l None s u) (sym (documents_nothing going.cutting))
+    handed = subst (λ (l : List Line). Handed going q l None s u) (sym (documents_nothing going.numbering))
         (record {
           whole = nothing;
           is = λ t right. nothing_in going.form t q going.policy;
@@ -58,10 +58,11 @@ module _ (going : Manner) (q : FilteredQuery) where
   }
 
   module _ (a b s u : Option (List ℕ)) (st : Stream) (h : Stands going q a b s u st) where
-    pub all_documents : documents_in going.cutting (h.front ++ h.more) ≡ documents_in going.cutting h.front
+    pub all_documents : documents_in going.numbering (h.front ++ h.more)
+        ≡ documents_in going.numbering h.front
         ++ st.buffer.lines
-    all_documents = documents_both going.cutting h.front h.more ∙ ap
-        (λ l. documents_in going.cutting h.front ++ l) (sym h.waiting)
+    all_documents = documents_both going.numbering h.front h.more ∙ ap
+        (λ l. documents_in going.numbering h.front ++ l) (sym h.waiting)
 
     -- what waited is answered too
     pub answered_all : (c v : Option (List ℕ)) (next : Stream) → c ≡ b → HasAnswered going q u v st next
@@ -74,29 +75,29 @@ module _ (going : Manner) (q : FilteredQuery) where
           consumed = subst (λ l. Consumes a c l) (sym (append-nil all))
               (subst (λ (o : Option (List ℕ)). Consumes a o all) (sym e) h.consumed);
           cutting = k.cutting ∙ h.cutting;
-          progress = k.progress ∙ h.progress ∙ ap (λ l. fed going.cutting nothing_fed l)
+          progress = k.progress ∙ h.progress ∙ ap (λ l. progress_in going.numbering l)
               (sym (append-nil all));
-          waiting = k.none ∙ sym (lines_nothing going.cutting all);
+          waiting = k.none ∙ sym (lines_nothing going.numbering all);
           come = k.come;
           lines = omega (
             arith,
             k.lines,
             h.lines,
             ap length all_documents,
-            length-append (documents_in going.cutting h.front) st.buffer.lines,
+            length-append (documents_in going.numbering h.front) st.buffer.lines,
           );
           faulty = omega (
             arith,
             k.faulty,
             h.faulty,
             ap (passed_in going.policy) all_documents,
-            passed_joined going.policy (documents_in going.cutting h.front) st.buffer.lines,
+            passed_joined going.policy (documents_in going.numbering h.front) st.buffer.lines,
           );
           wrote = subst (λ (l : List Line). HasBytes going q l next.answered.wrote) (sym all_documents)
-              (wrote_more going q (documents_in going.cutting h.front) st.buffer.lines s u st.answered.wrote
+              (wrote_more going q (documents_in going.numbering h.front) st.buffer.lines s u st.answered.wrote
               next.answered.wrote h.handed h.wrote k.wrote);
           handed = subst (λ (l : List Line). Handed going q l None s v) (sym all_documents)
-              (handed_both going q (documents_in going.cutting h.front) st.buffer.lines None s u v h.handed
+              (handed_both going q (documents_in going.numbering h.front) st.buffer.lines None s u v h.handed
               k.handed);
         }
 
@@ -122,15 +123,17 @@ module _ (going : Manner) (q : FilteredQuery) where
               (Consumes-trans a b c (h.front ++ h.more) r.piece h.consumed r.consumed);
           cutting = r.cutting ∙ h.cutting;
           progress = r.progress ∙ ap (λ c. fed c st.buffer.progress r.piece) h.cutting
-              ∙ ap (λ (p : Progress). fed going.cutting p r.piece) h.progress
-              ∙ sym (fed_twice going.cutting nothing_fed (h.front ++ h.more) r.piece) ∙ ap
-              (λ l. fed going.cutting nothing_fed l) cut;
+              ∙ ap (λ (p : Progress). fed going.numbering.cutting p r.piece) h.progress
+              ∙ sym (progress_both going.numbering (h.front ++ h.more) r.piece) ∙ ap
+              (λ l. progress_in going.numbering l) cut;
           waiting = r.lines ∙ ap (λ c. st.buffer.lines ++ fed_lines c st.buffer.progress r.piece) h.cutting
-              ∙ ap (λ l. l ++ fed_lines going.cutting st.buffer.progress r.piece) h.waiting
-              ∙ ap (λ (p : Progress). fed_lines going.cutting (fed going.cutting nothing_fed h.front) h.more
-              ++ fed_lines going.cutting p r.piece)
-              (h.progress ∙ fed_twice going.cutting nothing_fed h.front h.more)
-              ∙ sym (lines_twice going.cutting (fed going.cutting nothing_fed h.front) h.more r.piece);
+              ∙ ap (λ l. l ++ fed_lines going.numbering.cutting st.buffer.progress r.piece) h.waiting
+              ∙ ap (λ (p : Progress). fed_lines going.numbering.cutting
+              (progress_in going.numbering h.front) h.more
+              ++ fed_lines going.numbering.cutting p r.piece)
+              (h.progress ∙ progress_both going.numbering h.front h.more)
+              ∙ sym (lines_twice going.numbering.cutting (progress_in going.numbering h.front) h.more
+              r.piece);
           come = omega (arith, r.come, h.come, length-append h.more r.piece);
           lines = ap (λ (n : Answered). n.lines) r.answered ∙ h.lines;
           faulty = ap (λ (n : Answered). n.faulty) r.answered ∙ h.faulty;
@@ -145,9 +148,9 @@ module _ (going : Manner) (q : FilteredQuery) where
       arith,
       few,
       ap (λ (p : Progress). p.count) h.progress,
-      few_documents going.cutting (h.front ++ h.more),
+      few_documents going.numbering (h.front ++ h.more),
       ap length all_documents,
-      length-append (documents_in going.cutting h.front) st.buffer.lines,
+      length-append (documents_in going.numbering h.front) st.buffer.lines,
       h.lines,
     )
 
@@ -157,8 +160,12 @@ module _ (going : Manner) (q : FilteredQuery) where
       h.lines,
       h.faulty,
       passed_few going.policy
-          (documents_in going.cutting h.front),
+          (documents_in going.numbering h.front),
     )
+
+    -- no fewer lines have ended than stand before the input
+    pub behind_others : going.numbering.before ≤ st.buffer.progress.count
+    behind_others = omega (arith, ap (λ (p : Progress). p.count) h.progress)
 
     pub are_counted : st.buffer.progress.count ≤ max_lines → IsCounted st
     are_counted few = record {

@@ -10,7 +10,7 @@ use Rattle.jp_answer.specs.FilteredQuery.{FilteredQuery}
 use Rattle.jp_output.specs.OutputForm.{OutputForm}
 use Rattle.jp_answer.specs.Policy.{policy, passed_in as lines_passed}
 use Rattle.jp_run.specs.AskedTexts.{AskedTexts, AreAcceptedIn}
-use Rattle.jp_run.specs.Cutting.{documents}
+use Rattle.jp_run.specs.Cutting.{Numbering, documents}
 use Rattle.jp_run.specs.Forms.{form_of}
 use Rattle.jp_run.specs.Manner.{Manner, manner}
 use Rattle.jp_run.specs.declared.settings.Settings.{Settings}
@@ -25,12 +25,16 @@ head_behind (Some name) = name ++ 9 ∷ []
 abbrev pub head_of : Settings → List ℕ
 head_of s = head_behind (option_map (λ name. name.now) s.name)
 
+-- how input is cut and numbered by the settings
+abbrev pub numbering_of : Settings → Numbering
+numbering_of s = record { cutting = s.cutting; before = s.before }
+
 -- by the settings, in their form and in some form
 abbrev pub manner_of : Settings → Manner
-manner_of s = manner s.cutting (form_of s.output (head_of s)) (policy s.numbers s.on_fault)
+manner_of s = manner (numbering_of s) (form_of s.output (head_of s)) (policy s.numbers s.on_fault)
 
 abbrev pub manner_in : (List ℕ → OutputForm) → Settings → Manner
-manner_in form s = manner s.cutting (form (head_of s)) (policy s.numbers s.on_fault)
+manner_in form s = manner (numbering_of s) (form (head_of s)) (policy s.numbers s.on_fault)
 
 -- how many faulty lines the answer passes
 abbrev pub passed_in : Settings → List Line → ℕ
@@ -42,10 +46,10 @@ IsAnswerTo text input a = (q : Query) × IsAccepted text q
     × ((t : Tests) → AreRight t → stream_answer t q input ≡ a)
 
 -- what is asked is accepted with the numbers of the manner, and this is the answer in that manner to the
--- input, which is cut as the manner says
+-- input, which is cut and numbered as the manner says
 abbrev pub IsAnswerBy : Manner → AskedTexts → List ℕ → Answer → Type 0
 IsAnswerBy going asked input a = (q : FilteredQuery) × AreAcceptedIn going.policy.numbers asked q
-    × ((t : Tests) → AreRight t → answer_by going.form going.policy t q (documents going.cutting input) ≡ a)
+    × ((t : Tests) → AreRight t → answer_by going.form going.policy t q (documents going.numbering input) ≡ a)
 
 -- what an `Answer` of `src/` stands for, and a `Whole`
 abbrev pub answer_of : stopping.Answer → Answer

@@ -12,7 +12,7 @@ use Rattle.jp_run.specs.Handed.{IsHandedBy}
 abbrev pub IsPrompt : Manner → AskedTexts → Option (List ℕ) → Option (List ℕ) → Begun → Type 0
 IsPrompt going asked input sink begun = begun.ready ≡ false → (come : List ℕ)
     × Consumes input begun.remaining come
-    × IsHandedBy going asked (documents_in going.cutting come) None sink begun.contents
+    × IsHandedBy going asked (documents_in going.numbering come) None sink begun.contents
     × (begun.flushed ≡ true)
 
 -- A read, whether it may wait or not, begins when all but fewer than so many bytes of those that have come
@@ -20,4 +20,4 @@ IsPrompt going asked input sink begun = begun.ready ≡ false → (come : List �
 abbrev pub IsNear : ℕ → Manner → AskedTexts → Option (List ℕ) → Option (List ℕ) → Begun → Type 0
 IsNear most going asked input sink begun = (front : List ℕ) × (more : List ℕ)
     × Consumes input begun.remaining (front ++ more) × (length more < most)
-    × IsHandedBy going asked (documents_in going.cutting front) None sink begun.contents
+    × IsHandedBy going asked (documents_in going.numbering front) None sink begun.contents

@@ -5,10 +5,10 @@ use Rattle.std.specs.Io.KnownBytes.{Appends, Consumes, IsAtEnd}
 use Rattle.jp_doc.specs.declared.fault.DocFault.{DocFault}
 use Rattle.jp_answer.specs.Answer.{Answer}
 use Rattle.jp_answer.specs.declared.on_fault.OnFault.TheVariants.{Stop, KeepGoing}
-use Rattle.jp_run.specs.Answered.{IsAnswerBy, manner_of, passed_in}
+use Rattle.jp_run.specs.Answered.{IsAnswerBy, manner_of, numbering_of, passed_in}
 use Rattle.jp_run.specs.AskedTexts.{AskedTexts}
 use Rattle.jp_run.specs.Begun.{AllSince}
-use Rattle.jp_run.specs.Cutting.{documents, documents_in, part_count}
+use Rattle.jp_run.specs.Cutting.{documents, documents_in, last_number, part_count}
 use Rattle.jp_run.specs.Handed.{IsHandedBy}
 use Rattle.jp_run.specs.Limits.{max_lines, max_reads, window as window_bytes}
 use Rattle.jp_run.specs.Prompt.{IsNear, IsPrompt}
@@ -31,9 +31,9 @@ pub record IsRunOf {S K : Type 0} (asked : AskedTexts) (settings : Settings) (so
       × Appends (k.contents u) (k.contents w) x.bytes))
   pub counts : IfOk result (λ totals. IfSome (source.remaining a)
       (λ input. (totals.lines ≡ part_count settings.cutting input)
-      × (totals.documents ≡ length (documents settings.cutting input))))
+      × (totals.documents ≡ length (documents (numbering_of settings) input))))
   pub faulty : IfOk result (λ totals. IfSome (source.remaining a)
-      (λ input. totals.faulty ≡ passed_in settings (documents settings.cutting input)))
+      (λ input. totals.faulty ≡ passed_in settings (documents (numbering_of settings) input)))
   pub none_passed : settings.on_fault ≡ Stop → IfOk result (λ totals. totals.faulty ≡ 0)
   pub wrote : IfOk result (λ totals. IfSome (source.remaining a) (λ input. (x : Answer)
       × IsAnswerBy (manner_of settings) asked input x × (totals.wrote ≡ nat_lt 0 (length x.bytes))))
@@ -54,12 +54,12 @@ pub record IsRunOf {S K : Type 0} (asked : AskedTexts) (settings : Settings) (so
       (source.remaining a) (k.contents u))
   pub read : IsErrOf result Read → (source.failed b ≡ true) × (bytes : List ℕ)
       × Consumes (source.remaining a) (source.remaining b) bytes
-      × IsHandedBy (manner_of settings) asked (documents_in settings.cutting bytes) None
+      × IsHandedBy (manner_of settings) asked (documents_in (numbering_of settings) bytes) None
       (k.contents u) (k.contents w)
   pub write : IsErrOf result Write → k.failed w ≡ true
   pub limit : IsErrOf result Limit → (source.reads b ≡ source.reads a + max_reads)
       ⊎ ((input : List ℕ) × Consumes (source.remaining a) (source.remaining b) input
-      × (max_lines < part_count settings.cutting input))
+      × (max_lines < last_number (numbering_of settings) input))
   -- and no text is told to be refused
   pub taken : (f : RunFault) → IsErrOf result f → status_of f ≡ 2 → ⊥
   pub settings_fine : IsErrOf result fault.Settings → ⊥

@@ -32,13 +32,13 @@ pub enum RunFault {
     /// The sink failed. A front of the answer was written.
     #[error("write")]
     Write,
-    /// There were 2^40 calls of `read` without an end, or more than 4,294,967,295 lines.
+    /// There were 2^40 calls of `read` without an end, or a line past number 4,294,967,295.
     #[error("limit")]
     Limit,
     /// A growth of memory was refused. A front of the answer was written.
     #[error("memory")]
     Memory,
-    /// A number of workers, or of documents, is out of its range.
+    /// A number of workers, of documents, or of the first line is out of its range.
     #[error("command line")]
     Settings,
 }

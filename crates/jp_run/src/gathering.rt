@@ -29,7 +29,7 @@ pub(crate) enum Came {
 /// Reads once, and adds the lines that are complete then. Where the read failed the lines stand as they
 /// stood. Where it brought more lines than these the next one asks for fewer bytes.
 ///
-/// `Limit` past 4,294,967,295 lines.
+/// `Limit` past line 4,294,967,295.
 pub(crate) fn read_on<K: Sink, S: Source<K>>(
     source: &mut S,
     sink: &K,
@@ -81,7 +81,8 @@ fn narrow(scratch: &mut Vec<u8>, is_wide: bool)
     }
 }
 
-/// Adds the last line, if there is one. Gives how many lines there are in all, blank ones too.
+/// Adds the last line, if there is one. Gives how many lines there are in all, blank ones and those before
+/// the input too.
 ///
 /// `Limit` if they are more than 4,294,967,295.
 pub(crate) fn take_last(buffer: &mut InputBuffer) -> Result<u64, RunFault>
@@ -97,7 +98,7 @@ pub(crate) fn take_last(buffer: &mut InputBuffer) -> Result<u64, RunFault>
     within_limit(buffer)
 }
 
-/// The number of lines that have ended.
+/// The number of lines that have ended, those before the input too.
 ///
 /// `Limit` if they are more than 4,294,967,295.
 fn within_limit(buffer: &InputBuffer) -> Result<u64, RunFault>

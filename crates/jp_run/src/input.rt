@@ -35,18 +35,18 @@ impl Model for InputBuffer {
 }
 
 impl InputBuffer {
-    /// Nothing has come yet. It takes no memory.
-    pub(crate) fn new(alloc: Global, cutting: Cutting) -> InputBuffer
-        ensures { result ≡ nothing_come cutting }
+    /// Nothing has come yet, behind so many parts. It takes no memory.
+    pub(crate) fn new(alloc: Global, cutting: Cutting, before: u64) -> InputBuffer
+        ensures { result ≡ nothing_come (record { cutting = cutting; before = before }) }
     {
         let parts = match cutting {
-            Cutting::Lines => Parts::Lines(LineBuffer::new(alloc)),
-            Cutting::Documents => Parts::Documents(DocumentBuffer::new(alloc)),
+            Cutting::Lines => Parts::Lines(LineBuffer::behind(alloc, before)),
+            Cutting::Documents => Parts::Documents(DocumentBuffer::behind(alloc, before)),
         };
         InputBuffer { parts }
     }
 
-    /// How many parts have ended, those that were taken away too, and blank lines.
+    /// How many parts have ended, with those before the input, those that were taken away and blank lines.
     pub(crate) fn count(&self) -> u64
         ensures { result ≡ self.now.progress.count }
     {

@@ -11,10 +11,10 @@ ghost use Rattle.jp_check.specs.Verdict.{IsVerdictIn};
 ghost use Rattle.jp_answer.specs.Answer.{Answer};
 ghost use Rattle.jp_answer.specs.FilteredQuery.{FilteredQuery};
 ghost use Rattle.jp_answer.specs.declared.on_fault.OnFault.TheVariants.{Stop, KeepGoing};
-ghost use Rattle.jp_run.specs.Answered.{IsAnswerBy, manner_in, manner_of, passed_in};
+ghost use Rattle.jp_run.specs.Answered.{IsAnswerBy, manner_in, manner_of, numbering_of, passed_in};
 ghost use Rattle.jp_run.specs.AskedTexts.{AreAcceptedIn, AreRefusedIn, IsFilterRefused, asked_by};
 ghost use Rattle.jp_run.specs.Begun.{AllSince};
-ghost use Rattle.jp_run.specs.Cutting.{documents, documents_in, part_count};
+ghost use Rattle.jp_run.specs.Cutting.{documents, documents_in, last_number, part_count};
 ghost use Rattle.jp_run.specs.inner.Running.{HasRun};
 ghost use Rattle.jp_run.specs.Handed.{IsHandedBy};
 ghost use Rattle.jp_run.specs.Limits.{max_reads, max_lines, window};
@@ -42,7 +42,7 @@ use std::thread::Threads;
 /// What a finished run has seen.
 #[derive(Clone, Copy, Debug, PartialEq, Eq)]
 pub struct Totals {
-    /// The number of lines, blank ones too.
+    /// The number of lines of the input, blank ones too.
     pub lines: u64,
     /// The number of lines that aren't blank, each of which held a document or is a faulty one.
     pub documents: u64,
@@ -65,6 +65,10 @@ impl Totals {
 
 /// Runs a query over all documents of the source, one on a line, and writes what it selects, in the form of
 /// the settings.
+///
+/// The first line, or document over lines, has the number behind the settings' `before`. So are all numbered:
+/// in the answer, as a gate is told of them, and in [`RunFault::Document`]. The totals count those of the
+/// input alone.
 ///
 /// Where the settings have a name, each line of nodes and each fault line stands behind it and a tab.
 ///
@@ -93,7 +97,7 @@ impl Totals {
 /// - [`RunFault::Read`] only where the source failed: exactly the lines of the documents whose line's end was
 /// read were written.
 /// - [`RunFault::Write`] only where the sink failed: a front of the answer was written.
-/// - [`RunFault::Limit`] only after 2^40 calls of `read`, or past 4,294,967,295 lines: a front of the answer
+/// - [`RunFault::Limit`] only after 2^40 calls of `read`, or past line 4,294,967,295: a front of the answer
 /// was written.
 /// - [`RunFault::Memory`] where a growth of memory was refused: a front of the answer was written.
 pub fn run<R: Threads + Sync, S: Source<K>, K: Sink, G: Gate + Sync>(
@@ -116,10 +120,10 @@ pub fn run<R: Threads + Sync, S: Source<K>, K: Sink, G: Gate + Sync>(
         × (a.stopped ≡ None) × Appends (K.contents sink.old) (K.contents sink.new) a.bytes)) }
     ensures counts { IfOk result (λ totals. IfSome (S.remaining source.old)
         (λ input. (totals.lines ≡ part_count settings.now.cutting input)
-        × (totals.documents ≡ length (documents settings.now.cutting input)))) }
+        × (totals.documents ≡ length (documents (numbering_of settings.now) input)))) }
     // The faulty lines that the answer passed: none where it doesn't keep going.
     ensures faulty { IfOk result (λ totals. IfSome (S.remaining source.old)
-        (λ input. totals.faulty ≡ passed_in settings.now (documents settings.now.cutting input))) }
+        (λ input. totals.faulty ≡ passed_in settings.now (documents (numbering_of settings.now) input))) }
     // None, whatever the source tells of its bytes.
     ensures none_passed { settings.now.on_fault ≡ Stop → IfOk result (λ totals. totals.faulty ≡ 0) }
     // Whether the answer has a byte.
@@ -174,11 +178,11 @@ pub fn run<R: Threads + Sync, S: Source<K>, K: Sink, G: Gate + Sync>(
     ensures read { IsErrOf result RunFault.Read → (S.failed source.new ≡ true) × (bytes : List ℕ)
         × Consumes (S.remaining source.old) (S.remaining source.new) bytes
         × IsHandedBy (manner_of settings.now) (asked_by query.now settings.now)
-        (documents_in settings.now.cutting bytes) None (K.contents sink.old) (K.contents sink.new) }
+        (documents_in (numbering_of settings.now) bytes) None (K.contents sink.old) (K.contents sink.new) }
     ensures write { IsErrOf result RunFault.Write → K.failed sink.new ≡ true }
     ensures limit { IsErrOf result RunFault.Limit → (S.reads source.new ≡ S.reads source.old + max_reads)
         ⊎ ((input : List ℕ) × Consumes (S.remaining source.old) (S.remaining source.new) input
-        × (max_lines < part_count settings.now.cutting input)) }
+        × (max_lines < last_number (numbering_of settings.now) input)) }
     // Settings are never out of range here.
     ensures settings { IsErrOf result RunFault.Settings → ⊥ }
     // Whatever the fault, a front of the answer was written.
@@ -223,7 +227,12 @@ fn answer_stream<R: Threads + Sync, S: Source<K>, K: Sink, G: Gate + Sync, F: Fo
     ensures ran { HasRun (manner_in F.says job.now.settings) S.Supply K.Sink job.now source.old source.new
         sink.old sink.new result }
 {
-    let mut stream = Stream::new(job.crew.alloc, job.settings.cutting, MAX_READS)?;
+    let mut stream = Stream::new(
+        job.crew.alloc,
+        job.settings.cutting,
+        job.settings.before,
+        MAX_READS,
+    )?;
     // The sink may come with bytes that it holds back.
     pass_on(sink)?;
     while stream.left > 0 {

@@ -1,11 +1,12 @@
 //! How a run is cut up.
 
-ghost use Rattle.std.specs.Prelude.{◌≡◌, ◌↔◌, None, Some, IsOk, IfOk, OnErr, IsErrOf};
-ghost use Rattle.jp_run.specs.Settings.{AreSettings};
+ghost use Rattle.std.specs.Prelude.{◌≡◌, ◌+◌, ◌≤◌, ◌↔◌, None, Some, IsOk, IfOk, OnErr, IsErrOf};
+ghost use Rattle.jp_run.specs.Limits.{max_lines};
+ghost use Rattle.jp_run.specs.Settings.{AreSettings, IsFirst};
 
 use crate::cutting::Cutting;
 use crate::fault::RunFault;
-use crate::limits::{MAX_DOCUMENTS, MAX_WORKERS};
+use crate::limits::{MAX_DOCUMENTS, MAX_LINES, MAX_WORKERS};
 use crate::output::Output;
 use jp_answer::{LinePolicy, OnFault};
 use jp_number::Numbers;
@@ -13,8 +14,8 @@ use jp_output::Head;
 use std::alloc::{AllocError, Global};
 
 /// How many workers answer, how many documents are a piece, how many a batch, how the input is cut into
-/// documents, which numbers there may be, what a faulty line does, which form the answer has, what name
-/// stands before its lines, and which filter chooses documents.
+/// documents, how these are numbered, which numbers there may be, what a faulty line does, which form the
+/// answer has, what name stands before its lines, and which filter chooses documents.
 #[derive(Clone, Copy, Debug, PartialEq, Eq, Drop)]
 pub struct Settings<'n> {
     /// The number of workers, 1 to 64.
@@ -29,6 +30,9 @@ pub struct Settings<'n> {
     pub numbers: Numbers,
     /// How the input is cut into documents.
     pub cutting: Cutting,
+    /// How many lines, or documents over lines, stand before the first of the input, which so has the next
+    /// number: 4,294,967,295 at most.
+    pub before: u64,
     /// What is written.
     pub output: Output,
     /// The name before each line of nodes and each fault line, with a tab, in the form that has these.
@@ -37,14 +41,16 @@ pub struct Settings<'n> {
     /// `$[?FILTER]` (RFC 9535, 2.3.5), where both `@` and `$` are the whole document.
     pub filter: Option<&'n str>,
     pub ghost in_range: { AreSettings workers piece batch },
+    pub ghost few_before: { before ≤ max_lines },
 }
 
 impl<'n> Settings<'n> {
     ghost use Rattle.jp_answer.specs.Policy.{policy};
     ghost use Rattle.jp_run.specs.Answered.{head_of};
 
-    /// The settings, which take no memory. A document is a line, numbers are whole, and the answer ends at
-    /// the first faulty line, and has a line for each node of every document, with no name before it.
+    /// The settings, which take no memory. A document is a line, the first has the number 1, numbers are
+    /// whole, and the answer ends at the first faulty line, and has a line for each node of every document,
+    /// with no name before it.
     ///
     /// # Errors
     ///
@@ -56,6 +62,7 @@ impl<'n> Settings<'n> {
         ensures whole { IfOk result (λ s. s.numbers ≡ Numbers.Whole) }
         ensures nodes { IfOk result (λ s. s.output ≡ Output.Nodes) }
         ensures lines { IfOk result (λ s. s.cutting ≡ Cutting.Lines) }
+        ensures first { IfOk result (λ s. s.before ≡ 0) }
         ensures no_name { IfOk result (λ s. s.name ≡ None) }
         ensures no_filter { IfOk result (λ s. s.filter ≡ None) }
         ensures in_range { IsOk result ↔ AreSettings workers piece batch }
@@ -74,6 +81,7 @@ impl<'n> Settings<'n> {
             on_fault: OnFault::Stop,
             numbers: Numbers::Whole,
             cutting: Cutting::Lines,
+            before: 0,
             output: Output::Nodes,
             name: None,
             filter: None,
@@ -95,7 +103,8 @@ impl<'n> Settings<'n> {
         ensures same { (result.workers ≡ self.entry.workers) × (result.piece ≡ self.entry.piece)
             × (result.batch ≡ self.entry.batch) × (result.output ≡ self.entry.output)
             × (result.numbers ≡ self.entry.numbers) × (result.name ≡ self.entry.name)
-            × (result.cutting ≡ self.entry.cutting) × (result.filter ≡ self.entry.filter) }
+            × (result.cutting ≡ self.entry.cutting) × (result.filter ≡ self.entry.filter)
+            × (result.before ≡ self.entry.before) }
         ensures going { result.on_fault ≡ OnFault.KeepGoing }
     {
         Settings {
@@ -105,6 +114,7 @@ impl<'n> Settings<'n> {
             on_fault: OnFault::KeepGoing,
             numbers: self.numbers,
             cutting: self.cutting,
+            before: self.before,
             output: self.output,
             name: self.name,
             filter: self.filter,
@@ -117,7 +127,8 @@ impl<'n> Settings<'n> {
         ensures same { (result.workers ≡ self.entry.workers) × (result.piece ≡ self.entry.piece)
             × (result.batch ≡ self.entry.batch) × (result.output ≡ self.entry.output)
             × (result.on_fault ≡ self.entry.on_fault) × (result.name ≡ self.entry.name)
-            × (result.cutting ≡ self.entry.cutting) × (result.filter ≡ self.entry.filter) }
+            × (result.cutting ≡ self.entry.cutting) × (result.filter ≡ self.entry.filter)
+            × (result.before ≡ self.entry.before) }
         ensures decimals { result.numbers ≡ Numbers.Decimals }
     {
         Settings {
@@ -127,6 +138,7 @@ impl<'n> Settings<'n> {
             on_fault: self.on_fault,
             numbers: Numbers::Decimals,
             cutting: self.cutting,
+            before: self.before,
             output: self.output,
             name: self.name,
             filter: self.filter,
@@ -138,7 +150,8 @@ impl<'n> Settings<'n> {
         ensures same { (result.workers ≡ self.entry.workers) × (result.piece ≡ self.entry.piece)
             × (result.batch ≡ self.entry.batch) × (result.on_fault ≡ self.entry.on_fault)
             × (result.numbers ≡ self.entry.numbers) × (result.name ≡ self.entry.name)
-            × (result.cutting ≡ self.entry.cutting) × (result.filter ≡ self.entry.filter) }
+            × (result.cutting ≡ self.entry.cutting) × (result.filter ≡ self.entry.filter)
+            × (result.before ≡ self.entry.before) }
         ensures output { result.output ≡ output }
     {
         Settings {
@@ -148,6 +161,7 @@ impl<'n> Settings<'n> {
             on_fault: self.on_fault,
             numbers: self.numbers,
             cutting: self.cutting,
+            before: self.before,
             output,
             name: self.name,
             filter: self.filter,
@@ -160,7 +174,8 @@ impl<'n> Settings<'n> {
         ensures same { (result.workers ≡ self.entry.workers) × (result.piece ≡ self.entry.piece)
             × (result.batch ≡ self.entry.batch) × (result.on_fault ≡ self.entry.on_fault)
             × (result.numbers ≡ self.entry.numbers) × (result.output ≡ self.entry.output)
-            × (result.cutting ≡ self.entry.cutting) × (result.filter ≡ self.entry.filter) }
+            × (result.cutting ≡ self.entry.cutting) × (result.filter ≡ self.entry.filter)
+            × (result.before ≡ self.entry.before) }
         ensures name { result.name ≡ name.entry }
     {
         Settings {
@@ -170,6 +185,7 @@ impl<'n> Settings<'n> {
             on_fault: self.on_fault,
             numbers: self.numbers,
             cutting: self.cutting,
+            before: self.before,
             output: self.output,
             name,
             filter: self.filter,
@@ -181,7 +197,8 @@ impl<'n> Settings<'n> {
         ensures same { (result.workers ≡ self.entry.workers) × (result.piece ≡ self.entry.piece)
             × (result.batch ≡ self.entry.batch) × (result.on_fault ≡ self.entry.on_fault)
             × (result.numbers ≡ self.entry.numbers) × (result.output ≡ self.entry.output)
-            × (result.name ≡ self.entry.name) × (result.filter ≡ self.entry.filter) }
+            × (result.name ≡ self.entry.name) × (result.filter ≡ self.entry.filter)
+            × (result.before ≡ self.entry.before) }
         ensures cutting { result.cutting ≡ cutting }
     {
         Settings {
@@ -191,10 +208,44 @@ impl<'n> Settings<'n> {
             on_fault: self.on_fault,
             numbers: self.numbers,
             cutting,
+            before: self.before,
             output: self.output,
             name: self.name,
             filter: self.filter,
         }
+    }
+
+    /// The same settings, but for an input whose first line, or document over lines, has this number: a part
+    /// of a larger one, whose lines have the numbers of the whole. It takes no memory.
+    ///
+    /// # Errors
+    ///
+    /// [`RunFault::Settings`] for a number outside 1 to 4,294,967,295.
+    pub fn with_first(self, first: u64) -> Result<Settings<'n>, RunFault>
+        ensures same { IfOk result (λ s. (s.workers ≡ self.entry.workers) × (s.piece ≡ self.entry.piece)
+            × (s.batch ≡ self.entry.batch) × (s.on_fault ≡ self.entry.on_fault)
+            × (s.numbers ≡ self.entry.numbers) × (s.output ≡ self.entry.output)
+            × (s.name ≡ self.entry.name) × (s.cutting ≡ self.entry.cutting)
+            × (s.filter ≡ self.entry.filter)) }
+        ensures first { IfOk result (λ s. s.before + 1 ≡ first) }
+        ensures in_range { IsOk result ↔ IsFirst first }
+        ensures fault { OnErr result (IsErrOf result RunFault.Settings) }
+    {
+        if !(1..=MAX_LINES).contains(&first) {
+            return Err(RunFault::Settings);
+        }
+        Ok(Settings {
+            workers: self.workers,
+            piece: self.piece,
+            batch: self.batch,
+            on_fault: self.on_fault,
+            numbers: self.numbers,
+            cutting: self.cutting,
+            before: first - 1,
+            output: self.output,
+            name: self.name,
+            filter: self.filter,
+        })
     }
 
     /// The same settings, but for an answer of the documents alone of which the filter of this text is true,
@@ -203,7 +254,8 @@ impl<'n> Settings<'n> {
         ensures same { (result.workers ≡ self.entry.workers) × (result.piece ≡ self.entry.piece)
             × (result.batch ≡ self.entry.batch) × (result.on_fault ≡ self.entry.on_fault)
             × (result.numbers ≡ self.entry.numbers) × (result.output ≡ self.entry.output)
-            × (result.name ≡ self.entry.name) × (result.cutting ≡ self.entry.cutting) }
+            × (result.name ≡ self.entry.name) × (result.cutting ≡ self.entry.cutting)
+            × (result.before ≡ self.entry.before) }
         ensures filter { result.filter ≡ filter.entry }
     {
         Settings {
@@ -213,6 +265,7 @@ impl<'n> Settings<'n> {
             on_fault: self.on_fault,
             numbers: self.numbers,
             cutting: self.cutting,
+            before: self.before,
             output: self.output,
             name: self.name,
             filter,

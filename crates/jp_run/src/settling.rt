@@ -126,12 +126,14 @@ pub(crate) fn answer_rest<R: Threads + Sync, K: Sink, G: Gate + Sync, F: Form + 
 ) -> Result<Totals, RunFault>
     requires ready { IsReady K.Sink sink.old }
     requires few_lines { stream.old.buffer.progress.count ≤ max_lines }
+    requires behind { job.now.settings.before ≤ stream.old.buffer.progress.count }
     requires few { stream.old.answered.lines + length stream.old.buffer.lines ≤ max_lines }
     requires few_faulty { stream.old.answered.faulty ≤ stream.old.answered.lines }
     ensures handed { OnOk result (Handed (manner_in F.says job.now.settings) (job_query
         job.now) (stream.old.buffer.lines ++ finished_lines stream.old.buffer.progress) None
         (K.contents sink.old) (K.contents sink.new)) }
-    ensures lines { IfOk result (λ totals. totals.lines ≡ (finished stream.old.buffer.progress).count) }
+    ensures lines { IfOk result (λ totals. totals.lines + job.now.settings.before
+        ≡ (finished stream.old.buffer.progress).count) }
     ensures documents { IfOk result (λ totals. totals.documents ≡ stream.old.answered.lines
         + length (stream.old.buffer.lines ++ finished_lines stream.old.buffer.progress)) }
     ensures passed { IfOk result (λ totals. totals.faulty ≡ stream.old.answered.faulty
@@ -147,10 +149,10 @@ pub(crate) fn answer_rest<R: Threads + Sync, K: Sink, G: Gate + Sync, F: Form + 
         (finished stream.old.buffer.progress).count (K.failed sink.new) (K.contents sink.old)
         (K.contents sink.new)) }
 {
-    let lines = take_last(&mut stream.buffer)?;
+    let count = take_last(&mut stream.buffer)?;
     answer_come::<R, K, G, F>(job, sink, stream)?;
     Ok(Totals {
-        lines,
+        lines: count - job.settings.before,
         documents: stream.answered.lines,
         faulty: stream.answered.faulty,
         wrote: stream.answered.wrote,

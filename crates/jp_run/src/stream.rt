@@ -44,10 +44,16 @@ pub(crate) struct Passed {
 }
 
 impl Stream {
-    /// No lines, cut so, and so many calls of `read` left.
-    pub(crate) fn new(alloc: Global, cutting: Cutting, left: u64) -> Result<Stream, AllocError>
+    /// No lines, cut so, behind so many, and so many calls of `read` left.
+    pub(crate) fn new(
+        alloc: Global,
+        cutting: Cutting,
+        before: u64,
+        left: u64,
+    ) -> Result<Stream, AllocError>
         ensures left { IfOk result (λ s. s.left ≡ left) }
-        ensures buffer { IfOk result (λ s. s.buffer ≡ nothing_come cutting) }
+        ensures buffer { IfOk result (λ s. s.buffer
+            ≡ nothing_come (record { cutting = cutting; before = before })) }
         ensures come { IfOk result (λ s. s.come ≡ 0) }
         ensures answered { IfOk result (λ s. s.answered ≡ record { lines = 0; faulty = 0; wrote = false }) }
     {
@@ -57,7 +63,7 @@ impl Stream {
         Ok(Stream {
             scratch,
             left,
-            buffer: InputBuffer::new(alloc, cutting),
+            buffer: InputBuffer::new(alloc, cutting, before),
             come: 0,
             answered: Answered {
                 lines: 0,

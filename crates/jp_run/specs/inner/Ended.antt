@@ -12,7 +12,7 @@ use Rattle.jp_run.specs.declared.cutting.Cutting.{Cutting}
 use Rattle.jp_run.specs.declared.fault.RunFault.{RunFault}
 use Rattle.jp_run.specs.declared.fault.RunFault.TheVariants.{Query, Filter, Document, Read, Write, Limit}
 use Rattle.jp_run.specs.declared.fault.RunFault.TheVariants.{Memory, Settings}
-use Rattle.jp_run.specs.Cutting.{documents, documents_in, part_count, fed}
+use Rattle.jp_run.specs.Cutting.{documents, documents_in, last_number, fed}
 use Rattle.jp_run.specs.Handed.{Handed, HandedFront}
 use Rattle.jp_run.specs.Limits.{max_reads, max_lines}
 use Rattle.jp_run.specs.Written.{AppendsFront}
@@ -90,21 +90,21 @@ pub record Ends : Type 0 where
 
 -- a front of the answer to the whole input was appended
 abbrev pub InputFront : Manner → FilteredQuery → Ends → Type 0
-InputFront going q e = IfSome e.source_old (λ input. HandedFront going q (documents going.cutting input)
+InputFront going q e = IfSome e.source_old (λ input. HandedFront going q (documents going.numbering input)
     e.sink_old e.sink_new)
 
 -- a run
 abbrev pub StreamEnded : Manner → FilteredQuery → Ends → RunFault → Type 0
 StreamEnded going q e (Document line fault) =
-    IfSome e.source_old (λ input. Handed going q (documents going.cutting input) (Some (line, fault))
+    IfSome e.source_old (λ input. Handed going q (documents going.numbering input) (Some (line, fault))
     e.sink_old e.sink_new)
     × (going.policy.on_fault ≡ Stop)
 StreamEnded going q e Read = (e.source_failed ≡ true) × (bytes : List ℕ)
     × Consumes e.source_old e.source_new bytes
-    × Handed going q (documents_in going.cutting bytes) None e.sink_old e.sink_new
+    × Handed going q (documents_in going.numbering bytes) None e.sink_old e.sink_new
 StreamEnded going q e Write = (e.sink_failed ≡ true) × InputFront going q e
 StreamEnded going q e Limit = ((e.reads_new ≡ e.reads_old + max_reads) ⊎ ((bytes : List ℕ)
-    × Consumes e.source_old e.source_new bytes × (max_lines < part_count going.cutting bytes)))
+    × Consumes e.source_old e.source_new bytes × (max_lines < last_number going.numbering bytes)))
     × InputFront going q e
 StreamEnded going q e Memory = InputFront going q e
 StreamEnded going q e (Query fault) = ⊥

@@ -3,7 +3,6 @@
 use Rattle.std.specs.Prelude.{◌≡◌, ℕ, ◌+◌, ◌++◌, List, [], ◌∷◌, length, Option, None, Bool}
 use Rattle.std.specs.List.{flat_map}
 use Rattle.std.specs.Io.KnownBytes.{Consumes}
-use Rattle.jp_doc.specs.Feeding.{nothing_fed}
 use Rattle.jp_answer.specs.Asking.{asked_query}
 use Rattle.jp_answer.specs.FilteredQuery.{FilteredQuery}
 use Rattle.jp_output.specs.declared.form.Form as form
@@ -13,10 +12,9 @@ use Rattle.jp_answer.specs.Queued.{sent_task}
 use Rattle.jp_answer.specs.declared.asked.Asked.{Asked}
 use Rattle.jp_answer.specs.declared.queue.Queue.{Queue}
 use Rattle.jp_answer.specs.declared.queue.Sent.{Sent}
-use Rattle.jp_run.specs.Cutting.{documents_in, fed, fed_lines}
+use Rattle.jp_run.specs.Cutting.{Numbering, documents_in, fed_lines, progress_in}
 use Rattle.jp_run.specs.Handed.{Handed}
 use Rattle.jp_run.specs.Manner.{Manner, manner}
-use Rattle.jp_run.specs.declared.cutting.Cutting.{Cutting}
 use Rattle.jp_run.specs.inner.Ended.{StreamEnded}
 use Rattle.jp_run.specs.inner.Wrote.{HasBytes, HasBytesMore}
 use Rattle.jp_run.specs.declared.fault.RunFault.{RunFault}
@@ -27,18 +25,18 @@ abbrev pub all_bytes : List (List ℕ) → List ℕ
 all_bytes pieces = flat_map (λ piece. piece) pieces
 
 -- how the lines are to be answered of which this is asked
-abbrev pub manner_asked : {F : Type 0} → form.Ghosts F → Cutting → Asked → Manner
-manner_asked g cutting a = manner cutting (g.says a.head.now) a.policy
+abbrev pub manner_asked : {F : Type 0} → form.Ghosts F → Numbering → Asked → Manner
+manner_asked g numbering a = manner numbering (g.says a.head.now) a.policy
 
 module _ {F : Type 0} {g : form.Ghosts F} {v : visit.Ghosts F} where
   -- the block has the lines that end in a piece behind these bytes, and asks this query of them
   pub record IsSent (going : Manner) (q : FilteredQuery) (before piece : List ℕ) (s : Sent F g v) : Type 0
     where
       pub lines : (sent_task s).lines
-          ≡ fed_lines going.cutting (fed going.cutting nothing_fed before) piece
+          ≡ fed_lines going.numbering.cutting (progress_in going.numbering before) piece
       pub bytes : s.bytes ≡ length piece
       pub query : asked_query (sent_task s).asked ≡ q
-      pub manner_is : manner_asked g going.cutting (sent_task s).asked ≡ going
+      pub manner_is : manner_asked g going.numbering (sent_task s).asked ≡ going
 
   -- so do these blocks, of pieces one behind another
   abbrev pub AreSent : Manner → FilteredQuery → List ℕ → List (List ℕ) → List (Sent F g v) → Type 0
@@ -57,22 +55,22 @@ module _ {F : Type 0} {g : form.Ghosts F} {v : visit.Ghosts F} where
     pub pieces : List (List ℕ)
     pub last : List ℕ
     pub consumed : Consumes old now (front ++ (all_bytes pieces ++ last))
-    pub cutting : s.buffer.cutting ≡ going.cutting
+    pub cutting : s.buffer.cutting ≡ going.numbering.cutting
     pub progress : s.buffer.progress
-        ≡ fed going.cutting nothing_fed (front ++ (all_bytes pieces ++ last))
+        ≡ progress_in going.numbering (front ++ (all_bytes pieces ++ last))
     pub sent : AreSent going q front pieces out
     pub waiting : s.buffer.lines
-        ≡ fed_lines going.cutting (fed going.cutting nothing_fed (front ++ all_bytes pieces)) last
+        ≡ fed_lines going.numbering.cutting (progress_in going.numbering (front ++ all_bytes pieces)) last
     pub bytes_are : bytes ≡ length (all_bytes pieces)
     pub come : s.come ≡ length (all_bytes pieces ++ last)
-    pub lines : s.answered.lines ≡ length (documents_in going.cutting front)
-    pub faulty : s.answered.faulty ≡ passed_in going.policy (documents_in going.cutting front)
-    pub wrote : HasBytes going q (documents_in going.cutting front) s.answered.wrote
-    pub handed : Handed going q (documents_in going.cutting front) None sink_old sink_now
+    pub lines : s.answered.lines ≡ length (documents_in going.numbering front)
+    pub faulty : s.answered.faulty ≡ passed_in going.policy (documents_in going.numbering front)
+    pub wrote : HasBytes going q (documents_in going.numbering front) s.answered.wrote
+    pub handed : Handed going q (documents_in going.numbering front) None sink_old sink_now
 
   -- this is what is asked of further blocks
   abbrev pub AsksSo : Manner → FilteredQuery → Queue F g v → Type 0
-  AsksSo going q o = (asked_query o.asked ≡ q) × (manner_asked g going.cutting o.asked ≡ going)
+  AsksSo going q o = (asked_query o.asked ≡ q) × (manner_asked g going.numbering o.asked ≡ going)
 
   -- a run stands somewhere
   abbrev pub IsGoing : Manner → FilteredQuery → Option (List ℕ) → Stream → Queue F g v → Type 0

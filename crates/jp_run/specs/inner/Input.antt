@@ -1,7 +1,9 @@
 -- A working file, which nobody has to believe: what a buffer of input means, for private clauses alone.
 use Rattle.std.specs.Prelude.{List, []}
-use Rattle.jp_doc.specs.Feeding.{Progress, nothing_fed}
+use Rattle.jp_doc.specs.Feeding.{Progress}
 use Rattle.jp_doc.specs.Lines.{Line}
+use Rattle.jp_buffer.specs.Buffered.{nothing_fed_behind}
+use Rattle.jp_run.specs.Cutting.{Numbering}
 use Rattle.jp_run.specs.declared.cutting.Cutting.{Cutting}
 use Rattle.jp_run.specs.declared.cutting.Cutting.TheVariants as cutting
 use Rattle.jp_run.specs.declared.input.Parts.{Parts}
@@ -14,8 +16,8 @@ pub record Input : Type 0 where
   pub lines : List Line
 
 -- before the first piece
-abbrev pub nothing_come : Cutting → Input
-nothing_come c = record { cutting = c; progress = nothing_fed; lines = [] }
+abbrev pub nothing_come : Numbering → Input
+nothing_come n = record { cutting = n.cutting; progress = nothing_fed_behind n.before; lines = [] }
 
 -- what the buffer of either kind means
 abbrev pub input_of : Parts → Input

@@ -3,7 +3,7 @@
 use Rattle.std.specs.Prelude.{◌≡◌, ◌+◌, ◌≤◌, false, true, length, None, Result, IfOk, OnOk, IfErr, IfSome}
 use Rattle.std.specs.Io.KnownBytes.{IsAtEnd}
 use Rattle.jp_answer.specs.declared.on_fault.OnFault.TheVariants.{Stop}
-use Rattle.jp_run.specs.Answered.{passed_in}
+use Rattle.jp_run.specs.Answered.{numbering_of, passed_in}
 use Rattle.jp_run.specs.Begun.{AllSince}
 use Rattle.jp_run.specs.Cutting.{documents, part_count}
 use Rattle.jp_run.specs.Handed.{Handed}
@@ -24,16 +24,16 @@ use Rattle.jp_run.specs.inner.Wrote.{HasBytes}
 pub record HasRun {R G S K : Type 0} (going : Manner) (source : supply.Ghosts S) (k : sink.Ghosts K)
     (job : Job R G) (a b : S) (u w : K) (result : Result Totals RunFault) : Type 0 where
   pub handed : OnOk result (IfSome (source.remaining a) (λ input. Handed going
-      (job_query job) (documents job.settings.cutting input) None (k.contents u)
+      (job_query job) (documents (numbering_of job.settings) input) None (k.contents u)
       (k.contents w)))
   pub counts : IfOk result (λ totals. IfSome (source.remaining a)
       (λ input. (totals.lines ≡ part_count job.settings.cutting input)
-      × (totals.documents ≡ length (documents job.settings.cutting input))))
+      × (totals.documents ≡ length (documents (numbering_of job.settings) input))))
   pub passed : IfOk result (λ totals. IfSome (source.remaining a)
-      (λ input. totals.faulty ≡ passed_in job.settings (documents job.settings.cutting input)))
+      (λ input. totals.faulty ≡ passed_in job.settings (documents (numbering_of job.settings) input)))
   pub none_passed : job.settings.on_fault ≡ Stop → IfOk result (λ totals. totals.faulty ≡ 0)
   pub wrote : IfOk result (λ totals. IfSome (source.remaining a) (λ input. HasBytes going
-      (job_query job) (documents job.settings.cutting input) totals.wrote))
+      (job_query job) (documents (numbering_of job.settings) input) totals.wrote))
   pub few_lines : IfOk result (λ totals. totals.lines ≤ max_lines)
   pub end : OnOk result (IsAtEnd (source.remaining b))
   pub flushed : OnOk result (k.flushed w ≡ true)

@@ -6,7 +6,7 @@ use Rattle.jp_answer.below.jp_node.specs.declared.visit.Visit as visit
 use Rattle.jp_answer.specs.Queued.{sent_task}
 use Rattle.jp_answer.specs.declared.queue.Queue.{Queue}
 use Rattle.jp_answer.specs.declared.queue.Sent.{Sent}
-use Rattle.jp_run.specs.Answered.{manner_in}
+use Rattle.jp_run.specs.Answered.{manner_in, numbering_of}
 use Rattle.jp_run.specs.Handed.{Handed}
 use Rattle.jp_run.specs.Limits.{max_lines}
 use Rattle.jp_run.specs.declared.ends.Sink as sink
@@ -50,13 +50,13 @@ module _ {R G K F : Type 0} (k : sink.Ghosts K) {g : form.Ghosts F} {v : visit.G
   pub record HasWrittenBlock {T : Type 0} (job : Job R G) (front : Sent F g v) (u w : K) (s t : Stream)
       (result : Result T RunFault) : Type 0 where
     pub ready : StaysReady k w result
-    pub handed : OnOk result (Handed (manner_asked g job.settings.cutting (sent_task front).asked)
+    pub handed : OnOk result (Handed (manner_asked g (numbering_of job.settings) (sent_task front).asked)
         (asked_query (sent_task front).asked) (sent_task front).lines None (k.contents u)
         (k.contents w))
-    pub written : OnOk result (HasWritten (manner_asked g job.settings.cutting (sent_task front).asked)
+    pub written : OnOk result (HasWritten (manner_asked g (numbering_of job.settings) (sent_task front).asked)
         (asked_query (sent_task front).asked) front s t)
     pub left : t.left ≡ s.left
-    pub fault : IfErr result (AnswerEnded (manner_asked g job.settings.cutting (sent_task front).asked)
+    pub fault : IfErr result (AnswerEnded (manner_asked g (numbering_of job.settings) (sent_task front).asked)
         (asked_query (sent_task front).asked) (sent_task front).lines (k.failed w)
         (k.contents u) (k.contents w))
 

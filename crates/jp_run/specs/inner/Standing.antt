@@ -2,12 +2,11 @@
 -- alone.
 use Rattle.std.specs.Prelude.{◌≡◌, ℕ, ◌+◌, ◌<◌, ◌≤◌, ◌⊎◌, ◌++◌, List, [], length, Option, None, false, true}
 use Rattle.std.specs.Io.KnownBytes.{Consumes}
-use Rattle.jp_doc.specs.Feeding.{nothing_fed}
 use Rattle.jp_answer.specs.FilteredQuery.{FilteredQuery}
 use Rattle.jp_answer.specs.Policy.{passed_in}
 use Rattle.jp_run.specs.Manner.{Manner}
 use Rattle.jp_run.specs.Begun.{Begun}
-use Rattle.jp_run.specs.Cutting.{documents_in, fed, fed_lines}
+use Rattle.jp_run.specs.Cutting.{documents_in, fed_lines, progress_in}
 use Rattle.jp_run.specs.Handed.{Handed}
 use Rattle.jp_run.specs.Limits.{max_lines}
 use Rattle.jp_run.specs.inner.Wrote.{HasBytes, HasBytesMore}
@@ -46,22 +45,22 @@ pub record Stands (going : Manner) (q : FilteredQuery) (old now sink_old sink_no
   pub front : List ℕ
   pub more : List ℕ
   pub consumed : Consumes old now (front ++ more)
-  pub cutting : s.buffer.cutting ≡ going.cutting
-  pub progress : s.buffer.progress ≡ fed going.cutting nothing_fed (front ++ more)
-  pub waiting : s.buffer.lines ≡ fed_lines going.cutting (fed going.cutting nothing_fed front) more
+  pub cutting : s.buffer.cutting ≡ going.numbering.cutting
+  pub progress : s.buffer.progress ≡ progress_in going.numbering (front ++ more)
+  pub waiting : s.buffer.lines ≡ fed_lines going.numbering.cutting (progress_in going.numbering front) more
   pub come : s.come ≡ length more
-  pub lines : s.answered.lines ≡ length (documents_in going.cutting front)
-  pub faulty : s.answered.faulty ≡ passed_in going.policy (documents_in going.cutting front)
-  pub wrote : HasBytes going q (documents_in going.cutting front) s.answered.wrote
-  pub handed : Handed going q (documents_in going.cutting front) None sink_old sink_now
+  pub lines : s.answered.lines ≡ length (documents_in going.numbering front)
+  pub faulty : s.answered.faulty ≡ passed_in going.policy (documents_in going.numbering front)
+  pub wrote : HasBytes going q (documents_in going.numbering front) s.answered.wrote
+  pub handed : Handed going q (documents_in going.numbering front) None sink_old sink_now
 
 -- what is promised of each read, of the query that is walked
 abbrev pub BeginsPrompt : Manner → FilteredQuery → Option (List ℕ) → Option (List ℕ) → Begun → Type 0
 BeginsPrompt going q input sink begun = begun.ready ≡ false → (come : List ℕ)
     × Consumes input begun.remaining come
-    × Handed going q (documents_in going.cutting come) None sink begun.contents × (begun.flushed ≡ true)
+    × Handed going q (documents_in going.numbering come) None sink begun.contents × (begun.flushed ≡ true)
 
 abbrev pub BeginsNear : ℕ → Manner → FilteredQuery → Option (List ℕ) → Option (List ℕ) → Begun → Type 0
 BeginsNear most going q input sink begun = (front : List ℕ) × (more : List ℕ)
     × Consumes input begun.remaining (front ++ more) × (length more < most)
-    × Handed going q (documents_in going.cutting front) None sink begun.contents
+    × Handed going q (documents_in going.numbering front) None sink begun.contents

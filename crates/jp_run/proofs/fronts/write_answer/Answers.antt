@@ -2,6 +2,7 @@ use Rattle.std.proofs.Common.{arith, refl, rules}
 use Rattle.jp_answer.proofs.OnFaults.{passed_few}
 use Rattle.jp_answer.specs.Answered.{outcome_of}
 use Rattle.jp_answer.specs.Queued.{sent_task}
+use Rattle.jp_run.specs.Answered.{numbering_of}
 use Rattle.jp_run.specs.inner.Going.{manner_asked}
 use Rattle.jp_run.proofs.Handing.{told, handing_done, ended_handing}
 use Rattle.jp_run.proofs.Wrote.{wrote_or, wrote_whole}
@@ -32,7 +33,7 @@ overflow_add-stream-2 g c = omega (
 pub returns : goal.returns
 returns g c =
     let task = sent_task c.args.front.now in
-    let going = manner_asked g.F.Form c.args.job.now.settings.cutting task.asked in
+    let going = manner_asked g.F.Form (numbering_of c.args.job.now.settings) task.asked in
     let q = asked_query task.asked in
     record {
       block = record {

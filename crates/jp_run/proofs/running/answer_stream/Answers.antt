@@ -1,5 +1,6 @@
 use Rattle.std.proofs.KnownBytes.{Keeps-refl}
 use Rattle.std.proofs.Common.{◌+◌, ap, arith, inl, refl, rules, subst}
+use Rattle.jp_run.specs.Answered.{numbering_of}
 use Rattle.jp_run.specs.Cutting.{documents_in}
 use Rattle.jp_run.specs.Limits.{max_lines}
 use Rattle.jp_run.specs.inner.Input.{Input}
@@ -10,6 +11,7 @@ use Rattle.jp_run.proofs.Handing.{told_so}
 use Rattle.jp_run.proofs.Readings.{none_yet}
 use Rattle.jp_run.proofs.Runs.{not_run}
 use Rattle.jp_run.proofs.Standing.{stands_start, few_lines, few_faulty, are_counted}
+use Rattle.jp_run.proofs.Standing.{behind_others}
 use Rattle.jp_run.proofs.running.answer_stream.Goals as goal
 
 pub loop-stream-init : goal.loop-stream-init
@@ -21,7 +23,11 @@ loop-stream-init g c = record {
   };
   stands = stands_start _ _ _ _ _ _ c.pass_on.ensures.bytes c.in_ok-stream.ensures.buffer
       c.in_ok-stream.ensures.come c.in_ok-stream.ensures.answered;
-  few_lines = omega (arith, ap (λ (b : Input). b.progress.count) c.in_ok-stream.ensures.buffer);
+  few_lines = omega (
+    arith,
+    ap (λ (b : Input). b.progress.count) c.in_ok-stream.ensures.buffer,
+    c.args.job.now.settings.few_before,
+  );
   reads = ap (λ n. g.S.Supply.reads c.args.source.now + n) c.in_ok-stream.ensures.left;
   prompt = none_yet _ _ _ refl;
   window = none_yet _ _ _ refl;
@@ -50,6 +56,11 @@ returns-in_err-turn g c =
           (search rules);
     }
 
+pub answer_rest-requires-clause-behind : goal.answer_rest-requires-clause-behind
+answer_rest-requires-clause-behind g c κs within =
+    let done = c.in_ok-turn.ensures.turned.stands _ _ c.loop-stream.invariant.stands in
+    behind_others _ _ _ _ _ _ _ done
+
 pub answer_rest-requires-clause-few : goal.answer_rest-requires-clause-few
 answer_rest-requires-clause-few g c κs within =
     let done = c.in_ok-turn.ensures.turned.stands _ _ c.loop-stream.invariant.stands in
@@ -75,7 +86,8 @@ returns-in-End g c =
             c.answer_rest.result rest.lines rest.documents;
         passed = faulty_ok _ _ _ _ _ _ (g.K.Sink.contents c.answer_rest.new.sink) _ done end.1
             c.answer_rest.result rest.passed;
-        none_passed = none_ok settings.on_fault settings.numbers (documents_in settings.cutting done.front)
+        none_passed = none_ok settings.on_fault settings.numbers
+            (documents_in (numbering_of settings) done.front)
             _ _ c.answer_rest.result done.faulty rest.passed;
         wrote = wrote_ok _ _ _ _ _ _ (g.K.Sink.contents c.answer_rest.new.sink) _ done end.1
             c.answer_rest.result rest.wrote;

@@ -16,4 +16,4 @@ returns-in_err-answer_come-clause-fault g c =
     let new = g.K.Sink.contents c.answer_come.new.sink in
     told _ _ _ c.from_residual-in_err-answer_come.ensures.1 (rest_answer going q _ _ failed old new _
     (subst (λ (l : List Line). AnswerEnded going q l failed old new c.in_err-answer_come.field-0.0)
-    c.in_ok-lines.ensures.lines c.in_err-answer_come.ensures.fault))
+    c.in_ok-count.ensures.lines c.in_err-answer_come.ensures.fault))

@@ -1,7 +1,7 @@
 use Rattle.std.proofs.Common.{rules, ap, ap₂, ◌∙◌}
 use Rattle.jp_answer.specs.Asking.{asked_query}
 use Rattle.jp_answer.specs.declared.asked.Asked.{Asked}
-use Rattle.jp_run.specs.Answered.{manner_in}
+use Rattle.jp_run.specs.Answered.{manner_in, numbering_of}
 use Rattle.jp_run.specs.Manner.{manner}
 use Rattle.jp_run.proofs.Ending.{stands_front}
 use Rattle.jp_run.proofs.Handing.{told}
@@ -28,14 +28,14 @@ returns-in_err-ring-clause-turned g c =
 -- what is asked of the blocks is what the run is to answer
 pub answer_beside-requires-clause-unused : goal.answer_beside-requires-clause-unused
 answer_beside-requires-clause-unused g c κs within =
-    let cutting = c.args.job.now.settings.cutting in
+    let numbering = numbering_of c.args.job.now.settings in
     record {
       none = c.new-out.ensures.none;
       bytes = c.new-out.ensures.bytes;
       asks = (
         ap asked_query c.new-out.ensures.asked ∙ c.asked.ensures.query,
-        ap (λ (a : Asked). manner cutting (g.F.Form.says a.head.now) a.policy) c.new-out.ensures.asked
-            ∙ ap₂ (λ head policy. manner cutting (g.F.Form.says head) policy) c.asked.ensures.head
+        ap (λ (a : Asked). manner numbering (g.F.Form.says a.head.now) a.policy) c.new-out.ensures.asked
+            ∙ ap₂ (λ head policy. manner numbering (g.F.Form.says head) policy) c.asked.ensures.head
             c.asked.ensures.policy,
       );
     }
