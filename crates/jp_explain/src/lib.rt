@@ -11,6 +11,7 @@ mod examples;
 mod explanation;
 mod growth;
 mod line;
+mod line_cause;
 mod line_explanation;
 mod line_helping;
 mod line_picture;

@@ -6,6 +6,7 @@ ghost use Rattle.jp_explain.specs.LineMark.{IsSilent, has_help, may_go_on};
 ghost use Rattle.jp_explain.specs.Picture.{IsHelp};
 
 use crate::line::PlainLine;
+use crate::line_cause::cause_of;
 use crate::line_explanation::explain_unreadable;
 use jp_doc::DocFault;
 use jp_line_scan::{LineExpected, LineReason, LineRule};
@@ -50,9 +51,9 @@ pub fn document_help(reason: &LineReason) -> Option<&'static str> {
     }
 }
 
-/// What helps with a line of that fault that was read by these numbers, in the words of `line_help`; nothing
-/// where it is not known. An unreadable line is scanned for where it goes wrong, and no other one is looked
-/// at.
+/// What helps with a line of that fault that was read by these numbers: of an unreadable line what its first
+/// bytes show, or else the words of `line_help`; nothing where it is not known. An unreadable line is scanned
+/// for where it goes wrong, and no other one is looked at.
 ///
 /// # Errors
 ///
@@ -69,9 +70,12 @@ pub fn help_with_line(
 {
     match fault {
         DocFault::NotWhole => Ok(Some(DECIMALS_HELP)),
-        DocFault::Unreadable => match explain_unreadable(alloc, line, numbers)? {
-            Some(told) => Ok(line_help(&told.reason)),
-            None => Ok(None),
+        DocFault::Unreadable => match cause_of(line) {
+            Some(cause) => Ok(Some(cause)),
+            None => match explain_unreadable(alloc, line, numbers)? {
+                Some(told) => Ok(line_help(&told.reason)),
+                None => Ok(None),
+            },
         },
         DocFault::LongLine | DocFault::LongNumber | DocFault::LongArray | DocFault::Memory => Ok(
             None,
@@ -96,9 +100,12 @@ pub fn help_with_document(
 {
     match fault {
         DocFault::NotWhole => Ok(Some(DECIMALS_HELP)),
-        DocFault::Unreadable => match explain_unreadable(alloc, document, numbers)? {
-            Some(told) => Ok(document_help(&told.reason)),
-            None => Ok(None),
+        DocFault::Unreadable => match cause_of(document) {
+            Some(cause) => Ok(Some(cause)),
+            None => match explain_unreadable(alloc, document, numbers)? {
+                Some(told) => Ok(document_help(&told.reason)),
+                None => Ok(None),
+            },
         },
         DocFault::LongLine | DocFault::LongNumber | DocFault::LongArray | DocFault::Memory => Ok(
             None,

@@ -8,7 +8,7 @@ use crate::ends::{Sink, Source};
 use crate::fault::RunFault;
 use crate::gathering::{Came, read_on};
 use crate::job::Job;
-use crate::limits::{MANY_BYTES, MANY_LINES};
+use crate::limits::{FIRST_READS, MANY_BYTES, MANY_LINES, MAX_READS};
 use crate::settings::Settings;
 use crate::settling::settle;
 use crate::stream::Stream;
@@ -41,11 +41,12 @@ pub(crate) fn turn<R: Threads + Sync, S: Source<K>, K: Sink, G: Gate + Sync, F: 
     }
 }
 
-/// Whether workers are worth it: where a line is there to be answered, and many bytes wait, or many lines.
-/// More than a batch are no block.
+/// Whether workers are worth it: where some reads were made, a line is there to be answered, and many bytes
+/// wait, or many lines. More than a batch are no block.
 fn has_much(settings: &Settings<'_>, stream: &Stream) -> bool {
     let lines = stream.buffer.len() as u64;
-    0 < lines
+    stream.left <= MAX_READS - FIRST_READS
+        && 0 < lines
         && lines <= settings.batch
         && (stream.come >= MANY_BYTES || lines >= MANY_LINES.max(settings.batch / 2))
 }

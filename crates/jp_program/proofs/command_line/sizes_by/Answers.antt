@@ -16,7 +16,3 @@ returns-in_err-batch-clause-none c = λ h w p b n s.
 pub returns-in_err-first-clause-none : goal.returns-in_err-first-clause-none
 returns-in_err-first-clause-none c = λ h w p b n s.
     let many = c.in_err-first.ensures.none refl (n + 1) s.4.0 in absurd (omega (arith, many, s.4.1.1))
-
-pub returns-in_err-settings-clause-none : goal.returns-in_err-settings-clause-none
-returns-in_err-settings-clause-none c = λ h w p b n s.
-    search rules
