@@ -1,13 +1,12 @@
 -- The answer to an input that is cut in two where nothing is open.
-use Rattle.std.proofs.Common.{◌≡◌, ℕ, ◌+◌, List, [], ◌++◌, Option, Some, None, ◌∙◌, ap, sym, subst}
-use Rattle.jp_doc.specs.Lines.{Line}
+use Rattle.std.proofs.Common.{◌≡◌, ℕ, ◌+◌, List, [], ◌++◌, Some, None, ◌∙◌, ap, sym}
 use Rattle.jp_doc.specs.declared.fault.DocFault.{DocFault}
-use Rattle.jp_pattern.specs.Tests.{Tests, AreRight}
+use Rattle.jp_pattern.specs.Tests.{Tests}
 use Rattle.jp_answer.specs.Answer.{Answer, answer_by, joined, unless_stopped}
 use Rattle.jp_answer.specs.FilteredQuery.{FilteredQuery}
 use Rattle.jp_answer.proofs.OnFaults.{formed_joined}
 use Rattle.jp_run.specs.Answered.{IsAnswerBy}
-use Rattle.jp_run.specs.AskedTexts.{AskedTexts, AreAcceptedIn}
+use Rattle.jp_run.specs.AskedTexts.{AskedTexts}
 use Rattle.jp_run.specs.Cutting.{cut, documents}
 use Rattle.jp_run.specs.Manner.{Manner, manner_behind}
 use Rattle.jp_run.proofs.Accepted.{one_asked}
