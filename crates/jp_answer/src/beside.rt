@@ -22,9 +22,10 @@ use std::{mem, thread};
 /// others are started once.
 ///
 /// Each of these claims a block's number, looks for the block, 20,000 times at most, tells the gate of the
-/// number, puts the answer into the block, and claims on. It ends where a block does not come, and where the
-/// ring is closed, as it is once the run has ended. Where memory or a thread for a worker is wanted there are
-/// fewer, and the run goes on all the same.
+/// number, puts the answer into the block, and claims on. Where the answer ends at a faulty line it reports
+/// the block: those behind it are left. It ends where a block does not come, and where the ring is closed, as
+/// it is once the run has ended. Where memory or a thread for a worker is wanted there are fewer, and the run
+/// goes on all the same.
 pub fn beside_workers<R: Threads + Sync, G: Gate + Sync, F: Form + Drop + Send, P: FnMut() -> X, X>(
     crew: &Crew<R, G>,
     ring: &Ring<'_, F>,
@@ -124,7 +125,13 @@ fn answer_blocks<R: Threads + Sync, G: Gate, F: Form + Drop + Send>(
         match look(ring, number) {
             Claimed::Here(block) => {
                 crew.gate.pass(number);
-                answerer.fill(crew, &block);
+                // Behind a block at whose faulty line the answer ends none is written.
+                if number < board.look(&mut own) {
+                    answerer.fill(crew, &block);
+                    if block.ends() {
+                        board.report(&mut own, number);
+                    }
+                }
             }
             Claimed::Gone => {}
             Claimed::NotYet => break,

@@ -115,6 +115,14 @@ impl<'q, F: Form> Block<'q, F> {
         Some(&one.answer)
     }
 
+    /// Whether its answer is there, and ends at a faulty line, behind which nothing is answered.
+    pub(crate) fn ends(&self) -> bool {
+        match self.found() {
+            Some(answer) => answer.stopped.is_some(),
+            None => false,
+        }
+    }
+
     /// The buffer of the lines, which are taken away. All else is let go.
     pub fn into_lines(self) -> WaitingLines
         ensures { result ≡ [] }

@@ -174,13 +174,17 @@ impl<'r, 'q, F: Form + Drop + Send> Queue<'r, 'q, F> {
         LOOKS.saturating_add(more)
     }
 
-    /// Answers the first block that no worker has taken. Gives whether there was one.
+    /// Answers the first block that no worker has taken, unless the answer ends at a block before it. Gives
+    /// whether there was one.
     fn help<R: Threads + Sync, G: Gate>(&mut self, crew: &Crew<R, G>) -> bool
         ensures asked { self.new.asked ≡ self.old.asked }
         ensures sent { self.new.sent ≡ self.old.sent }
         ensures bytes { self.new.bytes ≡ self.old.bytes }
     {
         for sent in &self.sent {
+            if sent.block.ends() {
+                return false;
+            }
             if self.ring.take_back(sent.number) {
                 crew.gate.pass(sent.number);
                 self.answerer.fill(crew, &sent.block);

@@ -5,11 +5,13 @@ ghost use Rattle.std.specs.Prelude.{◌≡◌, ◌+◌, ◌<◌};
 use crate::tasks::{
     asked_of, behind, by_one_thread, going_on, lines_of, many_lines, stopping, task_of,
 };
-use jp_answer::{Answerer, Asked, Block, Crew, LinePolicy, OpenGate, Ring, beside_workers};
+use jp_answer::{Answerer, Asked, Block, Crew, Gate, LinePolicy, OpenGate, Ring, beside_workers};
 use jp_check::plan;
 use jp_output::{Head, NodeLines};
 use std::alloc::Global;
 use std::sync::Arc;
+use std::sync::atomic::AtomicU64;
+use std::sync::atomic::Ordering::Relaxed;
 use std::thread::{Threads, yield_now};
 
 /// How many blocks may be out at once.
@@ -211,6 +213,63 @@ fn does_any_answer<R: Threads + Sync>(rt: &R, alloc: Global) -> bool {
 #[test]
 fn workers_answer(rt: HostRuntime) {
     assert!(rt; does_any_answer(&rt, rt.alloc()));
+}
+
+/// A gate that keeps the number of the block that passed it last.
+#[derive(Drop)]
+struct LastPassed {
+    number: AtomicU64,
+}
+
+impl Gate for LastPassed {
+    fn pass(&self, piece: u64) {
+        self.number.store(piece, Relaxed);
+    }
+}
+
+/// Whether a second block is left behind one at whose faulty line the answer ends, by the one worker that has
+/// answered the first and taken the second; `None` where it did not take both.
+fn leaves_second<R: Threads + Sync>(rt: &R, alloc: Global) -> Option<bool> {
+    let gate = LastPassed {
+        number: AtomicU64::new(0),
+    };
+    let crew = Crew {
+        rt,
+        alloc,
+        gate: &gate,
+    };
+    let Ok(plan) = plan(alloc, "$[0]") else {
+        return None;
+    };
+    let head = Head::none();
+    let blocks = blocks_of(alloc, asked_of(plan.compiled(), &head, stopping()), 2)?;
+    let Ok(ring) = Ring::new(alloc) else {
+        return None;
+    };
+    let mut run = || -> Option<bool> {
+        let (first, second) = blocks.split_at(1);
+        hand_out(&ring, first, 0)?;
+        let is_first = first.iter().all(|block| is_found(&ring, block, 1));
+        hand_out(&ring, second, 1)?;
+        is_first.then_some(second.iter().any(|block| is_found(&ring, block, 1)))
+    };
+    let is_answered = beside_workers(&crew, &ring, 2, &mut run)?;
+    (gate.number.load(Relaxed) == 1).then_some(!is_answered)
+}
+
+/// The same in the first of so many runs in which the worker took both blocks.
+fn leaves_second_once<R: Threads + Sync>(rt: &R, alloc: Global) -> Option<bool> {
+    for _run in 0..RUNS {
+        if let Some(leaves) = leaves_second(rt, alloc) {
+            return Some(leaves);
+        }
+    }
+    None
+}
+
+#[test]
+fn a_block_behind_a_fault_is_left(rt: HostRuntime) {
+    assert!(rt; leaves_second_once(&rt, rt.alloc()) == Some(true));
 }
 
 /// What a run does beside workers, and gives, is what its clause says.

@@ -1,6 +1,6 @@
 -- Lines that wait in a buffer, and how far the lines of their stream have come.
 use Rattle.std.specs.Prelude.{ℕ, ◌+◌, List, [], ◌∷◌, length}
-use Rattle.jp_doc.specs.Feeding.{Progress, nothing_fed}
+use Rattle.jp_doc.specs.Feeding.{Progress}
 use Rattle.jp_doc.specs.Lines.{Line}
 use Rattle.jp_buffer.specs.declared.line_ref.LineRef.{LineRef}
 
@@ -18,6 +18,13 @@ pub record Buffered : Type 0 where
   pub progress : Progress
   pub lines : List Line
 
+-- before the first piece, where so many lines have ended before: how far they have come, and a buffer
+abbrev pub nothing_fed_behind : ℕ → Progress
+nothing_fed_behind count = record { count = count; open_line = [] }
+
+abbrev pub nothing_buffered_behind : ℕ → Buffered
+nothing_buffered_behind count = record { progress = nothing_fed_behind count; lines = [] }
+
 -- before the first piece
 abbrev pub nothing_buffered : Buffered
-nothing_buffered = record { progress = nothing_fed; lines = [] }
+nothing_buffered = nothing_buffered_behind 0

@@ -2,7 +2,7 @@
 
 ghost use Rattle.std.specs.Prelude.{◌≡◌, ◌≤◌, ◌++◌, map, take, drop, length, IfOk, OnOk, OnErr};
 ghost use Rattle.jp_doc.specs.Feeding.{fed, fed_lines, finished, finished_lines, max_lines};
-ghost use Rattle.jp_buffer.specs.Buffered.{line_at, nothing_buffered, total_bytes};
+ghost use Rattle.jp_buffer.specs.Buffered.{line_at, nothing_buffered, nothing_buffered_behind, total_bytes};
 ghost use Rattle.jp_buffer.specs.inner.Waiting.{Begins};
 
 use crate::cutting::push_lines;
@@ -23,7 +23,7 @@ pub struct LineBuffer {
     waiting: WaitingLines,
     /// The bytes of the line that is not ended yet.
     open_line: Vec<u8>,
-    /// How many lines have ended, blank ones too.
+    /// How many lines have ended, blank ones and those before the first piece too.
     count: u64,
 }
 
@@ -47,14 +47,22 @@ impl LineBuffer {
     pub fn new(alloc: Global) -> LineBuffer
         ensures { result ≡ nothing_buffered }
     {
+        LineBuffer::behind(alloc, 0)
+    }
+
+    /// No lines yet, where so many have ended before: the first one has the next number. It takes no memory.
+    pub fn behind(alloc: Global, count: u64) -> LineBuffer
+        ensures { result ≡ nothing_buffered_behind count }
+    {
         LineBuffer {
             waiting: WaitingLines::new(alloc),
             open_line: Vec::new(alloc),
-            count: 0,
+            count,
         }
     }
 
-    /// How many lines have ended, blank ones and those that were taken away too.
+    /// How many lines have ended: blank ones, those that were taken away and those before the first piece
+    /// too.
     pub fn count(&self) -> u64
         ensures { result ≡ self.now.progress.count }
     {

@@ -2,7 +2,7 @@
 
 ghost use Rattle.std.specs.Prelude.{◌≡◌, [], ◌∷◌, codes, take, drop};
 ghost use Rattle.jp_doc.specs.Feeding.{fed, fed_lines, finished_lines, nothing_fed};
-ghost use Rattle.jp_buffer.specs.Buffered.{nothing_buffered, total_bytes};
+ghost use Rattle.jp_buffer.specs.Buffered.{nothing_buffered, nothing_buffered_behind, total_bytes};
 ghost use Rattle.jp_buffer.specs.inner.Waiting.{bytes_of, lines_in};
 
 fn nothing_yet()
@@ -11,6 +11,18 @@ fn nothing_yet()
     ensures lines { nothing_buffered.lines ≡ [] }
     ensures first_feed { fed_lines nothing_buffered.progress (codes "a\n\nb") ≡ (1, codes "a") ∷ [] }
     ensures last_line { finished_lines (fed nothing_fed (codes "a\n\nb")) ≡ (3, codes "b") ∷ [] }
+{}
+
+/// Two lines have ended before the first piece.
+fn nothing_yet_behind_two()
+    ensures count { (nothing_buffered_behind 2).progress.count ≡ 2 }
+    ensures open_line { (nothing_buffered_behind 2).progress.open_line ≡ [] }
+    ensures lines { (nothing_buffered_behind 2).lines ≡ [] }
+    ensures first_feed { fed_lines (nothing_buffered_behind 2).progress (codes "a\n\nb")
+        ≡ (3, codes "a") ∷ [] }
+    ensures last_line { finished_lines (fed (nothing_buffered_behind 2).progress (codes "a\n\nb"))
+        ≡ (5, codes "b") ∷ [] }
+    ensures none { nothing_buffered_behind 0 ≡ nothing_buffered }
 {}
 
 fn bytes_of_lines()

@@ -2,7 +2,7 @@
 
 ghost use Rattle.std.specs.Prelude.{◌≡◌, ◌≤◌, ◌++◌, map, take, drop, length, IfOk, OnOk, OnErr};
 ghost use Rattle.jp_doc.specs.Feeding.{finished, finished_lines, max_lines};
-ghost use Rattle.jp_buffer.specs.Buffered.{line_at, nothing_buffered, total_bytes};
+ghost use Rattle.jp_buffer.specs.Buffered.{line_at, nothing_buffered, nothing_buffered_behind, total_bytes};
 ghost use Rattle.jp_documents.specs.Feeding.{fed, fed_documents};
 ghost use Rattle.jp_documents.specs.inner.Finding.{Begins};
 
@@ -28,7 +28,7 @@ pub struct DocumentBuffer {
     open_document: Vec<u8>,
     /// Where the next byte stands.
     place: Place,
-    /// How many documents have ended.
+    /// How many documents have ended, those before the first piece too.
     count: u64,
 }
 
@@ -53,15 +53,23 @@ impl DocumentBuffer {
     pub fn new(alloc: Global) -> DocumentBuffer
         ensures { result ≡ nothing_buffered }
     {
+        DocumentBuffer::behind(alloc, 0)
+    }
+
+    /// No documents yet, where so many have ended before: the first one has the next number. It takes no
+    /// memory.
+    pub fn behind(alloc: Global, count: u64) -> DocumentBuffer
+        ensures { result ≡ nothing_buffered_behind count }
+    {
         DocumentBuffer {
             waiting: WaitingLines::new(alloc),
             open_document: Vec::new(alloc),
             place: Place::Between,
-            count: 0,
+            count,
         }
     }
 
-    /// How many documents have ended, those that were taken away too.
+    /// How many documents have ended, those that were taken away, and those before the first piece, too.
     pub fn count(&self) -> u64
         ensures { result ≡ self.now.progress.count }
     {

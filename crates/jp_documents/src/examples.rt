@@ -2,6 +2,7 @@
 
 ghost use Rattle.std.specs.Prelude.{◌≡◌, [], ◌∷◌, ◌++◌, codes};
 ghost use Rattle.jp_doc.specs.Feeding.{finished_lines, nothing_fed};
+ghost use Rattle.jp_buffer.specs.Buffered.{nothing_fed_behind};
 ghost use Rattle.jp_documents.specs.Documents.{all_documents, cut, documents};
 ghost use Rattle.jp_documents.specs.Feeding.{fed, fed_documents};
 ghost use Rattle.jp_documents.specs.inner.Finding.{lead_over, run_len, matters_in_brackets, matters_in_text};
@@ -62,6 +63,15 @@ fn pieces()
         ≡ (2, codes "[12]") ∷ [] }
     ensures last { finished_lines (fed (fed nothing_fed (codes "{} [1")) (codes "2]3"))
         ≡ (3, codes "3") ∷ [] }
+{}
+
+/// Two documents have ended before the first piece.
+fn pieces_behind_two()
+    ensures first_piece { fed_documents (nothing_fed_behind 2) (codes "{} [1") ≡ (3, codes "{}") ∷ [] }
+    ensures second_piece { fed_documents (fed (nothing_fed_behind 2) (codes "{} [1")) (codes "2]3")
+        ≡ (4, codes "[12]") ∷ [] }
+    ensures last { finished_lines (fed (fed (nothing_fed_behind 2) (codes "{} [1")) (codes "2]3"))
+        ≡ (5, codes "3") ∷ [] }
 {}
 
 fn runs()

@@ -93,6 +93,8 @@ pub enum LineRule {
     LeadingZero,
     /// A number is none that a float can be, if it is no whole one (RFC 8259, 6).
     TooLarge,
+    /// The same, of a number over the limits of decimals: over 1,000 digits, or over 9 in its exponent.
+    TooLong,
     /// Arrays and objects are nested 127 deep at most (RFC 8259, 9).
     TooDeep,
     /// A text ends before the line does (RFC 8259, 7).
@@ -146,7 +148,7 @@ impl LineRule {
             LineRule::HalfPair => "half of a surrogate pair",
             LineRule::Utf8 => "no UTF-8",
             LineRule::LeadingZero => "a digit behind a leading 0",
-            LineRule::TooLarge => "a number beyond what a float can be",
+            LineRule::TooLarge | LineRule::TooLong => "a number beyond what a float can be",
             LineRule::TooDeep => "nested over 127 deep",
             LineRule::TextEnd => "the line ends within a text",
         }

@@ -3,6 +3,7 @@
 use crate::line_place::{Digits, LineNumber, LinePlace, LineText, Within};
 use crate::line_reason::LineRule;
 use crate::line_scanner::{Event, LineHalt, LineScanner, against};
+use crate::long_number::long_length;
 
 /// The characters of a number with this one behind them, or nothing where none is written so.
 fn digits_after(digits: Digits, byte: u8) -> Option<Digits> {
@@ -77,7 +78,11 @@ impl LineScanner<'_> {
     pub(crate) fn number_end(&mut self, number: LineNumber, at: usize) -> Result<(), LineHalt> {
         let written = self.line.get(number.start..at).unwrap_or(&[]);
         if !self.has_decimals && is_too_large(written) {
-            return Err(against(number.start, LineRule::TooLarge));
+            let rule = match long_length(written) {
+                Some(_) => LineRule::TooLong,
+                None => LineRule::TooLarge,
+            };
+            return Err(against(number.start, rule));
         }
         self.place = LinePlace::Behind;
         Ok(())
