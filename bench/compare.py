@@ -26,9 +26,9 @@ TIME = "/usr/bin/time"
 PATIENCE = "600"
 # Under which name four runs of jp at once are kept beside the programs.
 PROCESSES = "four processes"
-# What share jp is to take, in a case in another form, of a time: of what, in which case, and whose.
-GOALS = [("values", "the same query in the form of nodes", "all", "jp", 0.6),
-         ("grep", "the program by hand", "grep", "by_hand", 0.35)]
+# Whose time that of jp is held to, in a case in another form: of what, in which case, and whose.
+OTHERS = [("values", "the same query in the form of nodes", "all", "jp"),
+          ("grep", "the program by hand", "grep", "by_hand")]
 
 
 class Watch:
@@ -248,14 +248,14 @@ def means(measured, names):
 
 
 def shares(measured):
-    """What the table says of the cases that have a goal, where both times were measured."""
+    """What the table says of cases in another form, where both times were measured."""
     said = []
-    for case, what, other, name, goal in GOALS:
+    for case, what, other, name in OTHERS:
         if case in measured and other in measured:
             ours, theirs = measured[case][0], measured[other][0]
             one, four = [ours["jp " + count].wall / theirs["%s %s" % (name, count)].wall for count in "14"]
-            said.append("for `%s` by that of %s: %.2f with one worker, %.2f with four (goal %g)"
-                        % (case, what, one, four, goal))
+            said.append("for `%s` by that of %s: %.2f with one worker, %.2f with four"
+                        % (case, what, one, four))
     return ["the time of jp " + "; ".join(said)] if said else []
 
 
