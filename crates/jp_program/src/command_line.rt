@@ -162,7 +162,7 @@ fn with_numbers<'a>(alloc: Global, command: Command<'a>) -> Result<Command<'a>, 
     ensures { IfOk result (λ r. app_of r ≡ numbers_of (app_of command.entry)) }
 {
     let workers = "How many threads answer at once, 1 to 64";
-    let piece = "Documents for a thread at least, 1 to 1000000";
+    let piece = "Least documents of a thread, 1 to 1000000";
     let batch = "Documents written together, 1 to 1000000";
     let first = "Number of the first line, 1 to 4294967295";
     let command = command.arg(number(alloc, "workers", "4", workers))?;
@@ -211,7 +211,7 @@ fn output<'a>(alloc: Global) -> Arg<'a>
         .long("output")
         .value_name("FORM")
         .default_value("nodes")
-        .help("Form: nodes, values, texts, raw or lines")
+        .help("Form: nodes, values, texts, raw, lines")
 }
 
 /// The option that takes a filter of documents.
