@@ -85,6 +85,8 @@ GROUPS = [
         ("jp_answer", "src/laws", "streams"),
         ("jp_answer", "src/laws", "stops_before"),
         ("jp_answer", "src/laws", "none_passed_before"),
+        ("jp_run", "src/laws", "numbered_from_one"),
+        ("jp_run", "src/laws", "parts"),
     ]),
     ("`jp_select` is the library, for programs in Rattle", FURTHER, [
         ("jp_check", "src/checking", "plan_in"),
