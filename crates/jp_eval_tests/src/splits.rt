@@ -5,8 +5,9 @@ use crate::forks::{Counting, Meeting};
 use jp_check::{Plan, plan};
 use jp_doc::{Document, Location, Step};
 use jp_eval::{Cuts, Evaluator, Halving};
-use jp_flat::FlatReader;
+use jp_flat::{LineDocument, LineReader};
 use jp_node::{Locations, Part};
+use jp_number::Numbers;
 use jp_select::{evaluate, evaluate_split};
 use std::alloc::Global;
 use std::test::Fail;
@@ -107,8 +108,10 @@ fn found_flat<R: Threads + Sync>(
     floor: u64,
     fork: &Counting,
 ) -> Result<Vec<Location>, Fail> {
-    let mut reader = FlatReader::new(alloc);
-    let document = reader.read(line.as_bytes())?.ok_or("not flat")?;
+    let mut reader = LineReader::new(alloc);
+    let Ok(LineDocument::Flat(document)) = reader.read(Numbers::Whole, line.as_bytes())? else {
+        return Err("not flat".into());
+    };
     let root = Part::root_of_flat(&document);
     let mut found = Locations {
         locations: Vec::new(alloc),

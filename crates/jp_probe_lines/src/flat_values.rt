@@ -3,7 +3,8 @@
 
 use crate::lines::{Alike, in_one_pass, is_read_alike};
 use jp_doc::Document;
-use jp_flat::{FlatDocument, FlatKind, FlatMember, FlatReader, FlatValue};
+use jp_flat::{FlatDocument, FlatKind, FlatMember, FlatValue, LineDocument, LineReader};
+use jp_number::Numbers;
 use jp_probe_parts::{Row, bytes_of};
 use serde::Serialize;
 use std::alloc::{AllocError, Global};
@@ -42,23 +43,17 @@ pub fn answer_flat_value(alloc: Global, row: Row<'_>) -> anyhow::Result<String> 
     let line = row.text("line")?.as_bytes();
     // The member of the root that is asked, or else the root.
     let member = row.text_if_any("member")?;
-    // Whether the line's numbers may be any.
-    let decimals = row.flag("decimals")?;
-    let mut reader = FlatReader::new(alloc);
-    let _was_refused = if decimals {
-        reader.read_decimal(line).is_err()
+    // The line's numbers may be any, or are whole.
+    let numbers = if row.flag("decimals")? {
+        Numbers::Decimals
     } else {
-        reader.read(line).is_err()
+        Numbers::Whole
     };
-    if decimals {
-        return match reader.read_decimal(line)? {
-            Ok(document) => told(alloc, &document, member),
-            Err(_) => nothing(alloc),
-        };
-    }
-    match reader.read(line)? {
-        Some(document) => told(alloc, &document, member),
-        None => nothing(alloc),
+    let mut reader = LineReader::new(alloc);
+    let _was_refused = reader.read(numbers, line).is_err();
+    match reader.read(numbers, line)? {
+        Ok(LineDocument::Flat(document)) => told(alloc, &document, member),
+        _ => nothing(alloc),
     }
 }
 
@@ -254,7 +249,7 @@ fn is_read_right(alloc: Global, line: &[u8]) -> anyhow::Result<bool> {
     if whole == Alike::Unlike || decimal == Alike::Unlike {
         return Ok(false);
     }
-    let mut reader = FlatReader::new(alloc);
+    let mut reader = LineReader::new(alloc);
     let told = is_read_alike(alloc, &mut reader, line)?;
     if Document::read(alloc, line).is_ok() {
         Ok(told == Alike::Alike)

@@ -1,10 +1,10 @@
-//! Lines that are read one after another by readers that are kept: `{"lines":{"lines":["[1]","{"]}}` says of
-//! each how it is read as a tree, flat, in one pass, and by the numbers that it may have.
+//! Lines that are read one after another by a reader that is kept: `{"lines":{"lines":["[1]","{"]}}` says of
+//! each how it is read as a tree, in one pass, and by the numbers that it may have.
 
 use crate::beside::same;
 use crate::one_pass::{is_as_laid, is_as_laid_decimal};
 use jp_doc::{DocFault, Document, whole_number};
-use jp_flat::{FlatReader, FlatValue, LineDocument, LineReader};
+use jp_flat::{FlatValue, LineDocument, LineReader};
 use jp_number::Numbers;
 use jp_probe_parts::{Row, bytes_of, text_in};
 use serde::Serialize;
@@ -26,8 +26,8 @@ struct LinesAnswer {
     /// The documents that are read as trees, written compactly, and why there is none.
     trees: Vec<Option<String>>,
     faults: Vec<Option<&'static str>>,
-    /// The flat documents beside them, by letters: `a` where they are alike, `u` where they are unlike, and
-    /// `l` where the line is left to be read as a tree.
+    /// What the kept reader reads with whole numbers, beside them, by letters: `a` where that is flat and
+    /// alike, `l` where it is the same tree or the same fault, and `u` where it is unlike.
     flat: String,
     /// How many items each flat document has, and the whole number that is the last of them.
     items: Vec<u32>,
@@ -41,31 +41,16 @@ struct LinesAnswer {
     decimals: Vec<String>,
 }
 
-/// The readers of a row.
-#[derive(Drop)]
-struct Readers {
-    flat: FlatReader,
-    line: LineReader,
-}
-
 /// The answer to what is asked of lines.
 pub fn answer_lines(alloc: Global, row: Row<'_>) -> anyhow::Result<String> {
-    row.has_only(&["lines", "are_long", "release"])?;
+    row.has_only(&["lines", "are_long"])?;
     // Whether the lines are long, so that no tree is looked at.
     let are_long = row.flag("are_long")?;
-    // Whether the reader of flat lines lets its memory go behind each.
-    let release = row.flag("release")?;
-    let mut readers = Readers {
-        flat: FlatReader::new(alloc),
-        line: LineReader::new(alloc),
-    };
+    let mut reader = LineReader::new(alloc);
     let mut answer = no_lines(alloc);
     for value in row.items("lines")? {
         let line = bytes_of(alloc, text_in(value)?)?;
-        add_line(alloc, &mut readers, &line, are_long, &mut answer)?;
-        if release {
-            readers.flat.release();
-        }
+        add_line(alloc, &mut reader, &line, are_long, &mut answer)?;
     }
     Ok(serde_json::to_string(alloc, &answer)?)
 }
@@ -73,29 +58,27 @@ pub fn answer_lines(alloc: Global, row: Row<'_>) -> anyhow::Result<String> {
 /// Adds how a line is read.
 fn add_line(
     alloc: Global,
-    readers: &mut Readers,
+    reader: &mut LineReader,
     line: &[u8],
     is_long: bool,
     answer: &mut LinesAnswer,
 ) -> anyhow::Result<()> {
-    let (items, last) = items_of(&mut readers.flat, line)?;
+    let (items, last) = items_of(reader, line)?;
     answer.items.push(items)?;
     answer.lasts.push(last)?;
-    if is_long {
-        answer.flat.push(letter(is_left(&mut readers.flat, line)?))?;
-    } else {
+    if !is_long {
         let (tree, fault) = tree_told(alloc, line)?;
         answer.trees.push(tree)?;
         answer.faults.push(fault)?;
-        let told = is_read_alike(alloc, &mut readers.flat, line)?;
+        let told = is_read_alike(alloc, reader, line)?;
         answer.flat.push(letter(told))?;
     }
     let (one_pass, one_pass_decimal) = in_one_pass(alloc, line)?;
     answer.one_pass.push(letter(one_pass))?;
     answer.one_pass_decimal.push(letter(one_pass_decimal))?;
-    let whole = told_by(alloc, &mut readers.line, Numbers::Whole, line)?;
+    let whole = told_by(alloc, reader, Numbers::Whole, line)?;
     answer.whole.push(whole)?;
-    let decimals = told_by(alloc, &mut readers.line, Numbers::Decimals, line)?;
+    let decimals = told_by(alloc, reader, Numbers::Decimals, line)?;
     answer.decimals.push(decimals)?;
     Ok(())
 }
@@ -133,17 +116,20 @@ fn tree_told(alloc: Global, line: &[u8]) -> anyhow::Result<(Option<String>, Opti
     }
 }
 
-/// Whether a flat value is that of a document that is read as a tree, or is left where there is none.
-pub fn is_read_alike(alloc: Global, reader: &mut FlatReader, line: &[u8]) -> anyhow::Result<Alike> {
-    let tree = match Document::read(alloc, line) {
-        Ok(document) => Some(document),
-        Err(DocFault::Memory) => return Err(AllocError.into()),
-        Err(_) => None,
-    };
-    match (reader.read(line)?, tree) {
-        (Some(flat), Some(tree)) => Ok(said(same(alloc, flat.root(), tree.root(), 128)?)),
-        (Some(_), None) => Ok(Alike::Unlike),
-        (None, _) => Ok(Alike::Left),
+/// Whether a line is read flat, with whole numbers, as the document that is read as a tree, or is left: it is
+/// read as that tree, or has the fault that this reading has.
+pub fn is_read_alike(alloc: Global, reader: &mut LineReader, line: &[u8]) -> anyhow::Result<Alike> {
+    match (
+        reader.read(Numbers::Whole, line)?,
+        Document::read(alloc, line),
+    ) {
+        (_, Err(DocFault::Memory)) => Err(AllocError.into()),
+        (Ok(LineDocument::Flat(flat)), Ok(tree)) => {
+            Ok(said(same(alloc, flat.root(), tree.root(), 128)?))
+        }
+        (Ok(LineDocument::Tree(other)), Ok(tree)) if other.root() == tree.root() => Ok(Alike::Left),
+        (Err(other), Err(fault)) if other == fault => Ok(Alike::Left),
+        _ => Ok(Alike::Unlike),
     }
 }
 
@@ -155,21 +141,13 @@ fn said(is_alike: bool) -> Alike {
     }
 }
 
-/// Whether a line is left to be read as a tree, in a reader that has read it before.
-fn is_left(reader: &mut FlatReader, line: &[u8]) -> Result<Alike, AllocError> {
-    match reader.read(line)? {
-        Some(_) => Ok(Alike::Alike),
-        None => Ok(Alike::Left),
-    }
-}
-
 /// How many items the flat document has, and the whole number that is the last of them. The line is read once
 /// before: where that is refused, it is read again by the same reader.
-fn items_of(reader: &mut FlatReader, line: &[u8]) -> Result<(u32, Option<i128>), AllocError> {
-    let _was_refused = reader.read(line).is_err();
-    match reader.read(line)? {
-        Some(document) => Ok(last_of(document.root())),
-        None => Ok((0, None)),
+fn items_of(reader: &mut LineReader, line: &[u8]) -> Result<(u32, Option<i128>), AllocError> {
+    let _was_refused = reader.read(Numbers::Whole, line).is_err();
+    match reader.read(Numbers::Whole, line)? {
+        Ok(LineDocument::Flat(document)) => Ok(last_of(document.root())),
+        _ => Ok((0, None)),
     }
 }
 

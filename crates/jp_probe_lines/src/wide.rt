@@ -1,19 +1,20 @@
 //! Objects of few names and of many: `{"wide":{"count":3,"step":2,"twice":true}}` is 3, where all members
 //! come in an order that rises, each with its number.
 
-use jp_doc::DocFault;
-use jp_flat::{FlatMember, FlatReader};
+use jp_flat::{FlatMember, LineDocument, LineReader};
+use jp_number::Numbers;
 use jp_probe_parts::Row;
 use std::alloc::{AllocError, Global};
 
-/// The answer: how many members came so, or `null` where one did not. The object has all names below the
-/// count, each the step further than the one before, and each twice where that is asked.
+/// The answer: how many members came so, or `null` where one did not, or the line is not read flat. The
+/// object has all names below the count, each the step further than the one before, and each twice where that
+/// is asked.
 pub fn answer_wide(alloc: Global, row: Row<'_>) -> anyhow::Result<String> {
     row.has_only(&["count", "step", "twice"])?;
     let count = u32::try_from(row.number("count")?)?;
     let step = u32::try_from(row.number("step")?)?;
     let line = line_of(alloc, count, step, row.flag("twice")?)?;
-    let mut reader = FlatReader::new(alloc);
+    let mut reader = LineReader::new(alloc);
     let risen = risen_in(alloc, &mut reader, &line)?;
     Ok(serde_json::to_string(alloc, &risen)?)
 }
@@ -40,8 +41,10 @@ fn add_member(alloc: Global, line: &mut Vec<u8>, name: u32, value: u32) -> Resul
 }
 
 /// How many members of the object of a line rise, each with its number.
-fn risen_in(alloc: Global, reader: &mut FlatReader, line: &[u8]) -> anyhow::Result<Option<u32>> {
-    let document = reader.read(line)?.ok_or(DocFault::Unreadable)?;
+fn risen_in(alloc: Global, reader: &mut LineReader, line: &[u8]) -> anyhow::Result<Option<u32>> {
+    let Ok(LineDocument::Flat(document)) = reader.read(Numbers::Whole, line)? else {
+        return Ok(None);
+    };
     let Some(members) = document.root().members() else {
         return Ok(None);
     };

@@ -4,8 +4,9 @@
 //! The two are read from one line, and compared by all calls, each way round: `?` stands where these tell
 //! otherwise than one another, or where a number's text is not the one that is asked of.
 
-use jp_flat::{FlatKind, FlatReader, FlatValue};
+use jp_flat::{FlatKind, FlatValue, LineDocument, LineReader};
 use jp_node::{Kind, Part};
+use jp_number::Numbers;
 use jp_probe_parts::{Row, text_in};
 use jp_tree::Operator;
 use jp_value::compare_kinds;
@@ -15,7 +16,7 @@ use std::cmp::Ordering;
 /// The answer to the pairs, each with a space between its two values: a letter for each.
 pub fn answer_compared(alloc: Global, row: Row<'_>) -> anyhow::Result<String> {
     row.has_only(&["pairs"])?;
-    let mut reader = FlatReader::new(alloc);
+    let mut reader = LineReader::new(alloc);
     let mut signs = String::new(alloc);
     for pair in row.items("pairs")? {
         signs.push(sign_of(alloc, &mut reader, text_in(pair)?)?)?;
@@ -24,12 +25,14 @@ pub fn answer_compared(alloc: Global, row: Row<'_>) -> anyhow::Result<String> {
 }
 
 /// The letter of a pair.
-fn sign_of(alloc: Global, reader: &mut FlatReader, pair: &str) -> anyhow::Result<char> {
+fn sign_of(alloc: Global, reader: &mut LineReader, pair: &str) -> anyhow::Result<char> {
     let Some((left, right)) = pair.split_once(" ") else {
         return Ok('?');
     };
     let line = format!(in alloc; "[{left},{right}]")?;
-    let document = reader.read_decimal(line.as_bytes())??;
+    let LineDocument::Flat(document) = reader.read(Numbers::Decimals, line.as_bytes())?? else {
+        return Ok('?');
+    };
     let (one, other) = (document.root().item(0), document.root().item(1));
     let (Some(one), Some(other)) = (one, other) else {
         return Ok('?');

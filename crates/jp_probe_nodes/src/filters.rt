@@ -5,7 +5,7 @@ use crate::nodes::numbers_of;
 use jp_check::{filter_in, plan};
 use jp_doc::Document;
 use jp_eval::DocumentFilter;
-use jp_flat::FlatReader;
+use jp_flat::{LineDocument, LineReader};
 use jp_node::Part;
 use jp_probe_parts::{Row, text_in};
 use std::alloc::Global;
@@ -33,7 +33,7 @@ fn asked(
     };
     // Whether numbers may be any: then documents are read flat alone.
     let decimals = row.flag("decimals")?;
-    let mut reader = FlatReader::new(alloc);
+    let mut reader = LineReader::new(alloc);
     let mut said = Vec::new(alloc);
     for text in row.items("documents")? {
         let line = text_in(text)?.as_bytes();
@@ -46,21 +46,18 @@ fn asked(
 fn asked_of(
     alloc: Global,
     filter: &DocumentFilter<'_>,
-    reader: &mut FlatReader,
+    reader: &mut LineReader,
     line: &[u8],
     decimals: bool,
 ) -> anyhow::Result<Option<bool>> {
+    let LineDocument::Flat(flat) = reader.read(numbers_of(decimals), line)?? else {
+        return Ok(None);
+    };
+    let said = filter.admits(Part::root_of_flat(&flat))?;
     if decimals {
-        let flat = reader.read_decimal(line)??;
-        return Ok(Some(filter.admits(Part::root_of_flat(&flat))?));
+        return Ok(Some(said));
     }
     let tree = Document::read(alloc, line)?;
-    let said = filter.admits(Part::root_of(&tree))?;
-    match reader.read(line)? {
-        Some(flat) => {
-            let other = filter.admits(Part::root_of_flat(&flat))?;
-            Ok(if said == other { Some(said) } else { None })
-        }
-        None => Ok(None),
-    }
+    let other = filter.admits(Part::root_of(&tree))?;
+    Ok(if said == other { Some(said) } else { None })
 }

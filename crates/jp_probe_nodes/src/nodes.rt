@@ -7,7 +7,7 @@
 use jp_check::{Plan, plan_in};
 use jp_doc::{Document, Location};
 use jp_eval::{Cuts, Evaluator, Halving, OpenFork};
-use jp_flat::FlatReader;
+use jp_flat::{LineDocument, LineReader};
 use jp_node::{Locations, Part};
 use jp_number::Numbers;
 use jp_output::write_path;
@@ -122,17 +122,12 @@ impl<'v> AskedNodes<'v> {
         plan: &Plan,
         told: &mut Vec<String>,
     ) -> anyhow::Result<()> {
-        let mut reader = FlatReader::new(alloc);
-        let line = self.document.as_bytes();
-        if self.decimals {
-            let document = reader.read_decimal(line)??;
-            return self.tell_part(rt, alloc, plan, Part::root_of_flat(&document), told);
-        }
-        match reader.read(line)? {
-            Some(document) => {
+        let mut reader = LineReader::new(alloc);
+        match reader.read(numbers_of(self.decimals), self.document.as_bytes())?? {
+            LineDocument::Flat(document) => {
                 self.tell_part(rt, alloc, plan, Part::root_of_flat(&document), told)
             }
-            None => push_other(told, String::from_str(alloc, "not flat")?),
+            LineDocument::Tree(_) => push_other(told, String::from_str(alloc, "not flat")?),
         }
     }
 

@@ -1,9 +1,10 @@
 //! The forms of the answer: `{"forms":{"name":"a","turns":[{"number":1,"line":"[1,2]","places":[0]}]}}` is
 //! what each form writes of the turns, over trees and over flat documents.
 
-use jp_doc::{DocFault, Document};
-use jp_flat::FlatReader;
+use jp_doc::Document;
+use jp_flat::{LineDocument, LineReader};
 use jp_node::{Part, PathStack};
+use jp_number::Numbers;
 use jp_output::{Form, Head, InputLines, NodeLines, RawLines, TextLines, ValueLines, join_chunks};
 use jp_probe_parts::{Row, fault_named, number_in, text_of};
 use serde::Serialize;
@@ -81,7 +82,7 @@ fn written_over<F: Form + Drop>(
     };
     // Nothing but the form has what stands before its lines any more.
     let mut form = F::new(alloc, &head.again());
-    let mut reader = FlatReader::new(alloc);
+    let mut reader = LineReader::new(alloc);
     let mut full = String::new(alloc);
     for turn in row.items("turns")? {
         add_turn(
@@ -102,7 +103,7 @@ fn written_over<F: Form + Drop>(
 fn add_turn<F: Form + Drop>(
     alloc: Global,
     form: &mut F,
-    reader: &mut FlatReader,
+    reader: &mut LineReader,
     turn: Row<'_>,
     is_flat: bool,
     full: &mut String,
@@ -119,7 +120,7 @@ fn add_turn<F: Form + Drop>(
 fn add_line<F: Form + Drop>(
     alloc: Global,
     form: &mut F,
-    reader: &mut FlatReader,
+    reader: &mut LineReader,
     turn: Row<'_>,
     is_flat: bool,
     full: &mut String,
@@ -128,7 +129,9 @@ fn add_line<F: Form + Drop>(
     form.begin(turn.number("number")?);
     push_full(form, full)?;
     if is_flat {
-        let document = reader.read(line)?.ok_or(DocFault::Unreadable)?;
+        let LineDocument::Flat(document) = reader.read(Numbers::Whole, line)?? else {
+            return Err(anyhow::anyhow!("a line is not read flat"));
+        };
         add_nodes(alloc, form, turn, Part::root_of_flat(&document))?;
     } else {
         let document = Document::read(alloc, line)?;

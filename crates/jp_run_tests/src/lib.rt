@@ -14,6 +14,8 @@ mod gates;
 #[cfg(test)]
 mod keep_going;
 #[cfg(test)]
+mod kept_reads;
+#[cfg(test)]
 mod many_lines;
 #[cfg(test)]
 mod shared;
