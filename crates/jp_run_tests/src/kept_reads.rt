@@ -314,8 +314,8 @@ fn most_waiting(reads: &[KeptRead<'_>], bytes: usize) -> usize {
     most
 }
 
-/// Reads of 65,536 bytes that are ready, of lines that are longer: they go ahead of the answer, and fewer
-/// bytes than the window wait.
+/// Reads of 65,536 bytes that are ready, of lines that are longer: they go ahead of the answer, and no more
+/// waits than the window and the begin of a line.
 #[test]
 fn reads_ahead(rt: HostRuntime) -> Result<(), Fail> {
     let mut text = String::new(rt.alloc());
@@ -328,7 +328,8 @@ fn reads_ahead(rt: HostRuntime) -> Result<(), Fail> {
         let bytes = text.as_bytes();
         let (end, kept) = run_kept(&rt, rt.alloc(), bytes, &plan, "$[0]", &settings, &OpenGate);
         let most = most_waiting(&kept.ok_or(RunFault::Memory)?, text.len());
-        assert!(rt; end.is_ok() && 65_536 <= most && most < 4_194_304, "{most}");
+        let ahead = LINE_BYTES < most && most < 4_194_304 + LINE_BYTES;
+        assert!(rt; end.is_ok() && ahead, "{most}");
     }
     Ok(())
 }
