@@ -119,17 +119,30 @@ fn tree_told(alloc: Global, line: &[u8]) -> anyhow::Result<(Option<String>, Opti
 /// Whether a line is read flat, with whole numbers, as the document that is read as a tree, or is left: it is
 /// read as that tree, or has the fault that this reading has.
 pub fn is_read_alike(alloc: Global, reader: &mut LineReader, line: &[u8]) -> anyhow::Result<Alike> {
-    match (
-        reader.read(Numbers::Whole, line)?,
-        Document::read(alloc, line),
-    ) {
-        (_, Err(DocFault::Memory)) => Err(AllocError.into()),
-        (Ok(LineDocument::Flat(flat)), Ok(tree)) => {
-            Ok(said(same(alloc, flat.root(), tree.root(), 128)?))
-        }
-        (Ok(LineDocument::Tree(other)), Ok(tree)) if other.root() == tree.root() => Ok(Alike::Left),
-        (Err(other), Err(fault)) if other == fault => Ok(Alike::Left),
-        _ => Ok(Alike::Unlike),
+    let tree = match Document::read(alloc, line) {
+        Err(DocFault::Memory) => return Err(AllocError.into()),
+        read => read,
+    };
+    match reader.read(Numbers::Whole, line)? {
+        Ok(document) => match tree {
+            Ok(tree) => Ok(beside_tree(alloc, &document, &tree)?),
+            Err(_) => Ok(Alike::Unlike),
+        },
+        Err(fault) if tree.err() == Some(fault) => Ok(Alike::Left),
+        Err(_) => Ok(Alike::Unlike),
+    }
+}
+
+/// Whether the document of a line is flat and as the tree, or is left as that tree.
+fn beside_tree(
+    alloc: Global,
+    document: &LineDocument<'_>,
+    tree: &Document,
+) -> Result<Alike, AllocError> {
+    match document {
+        LineDocument::Flat(flat) => Ok(said(same(alloc, flat.root(), tree.root(), 128)?)),
+        LineDocument::Tree(other) if other.root() == tree.root() => Ok(Alike::Left),
+        LineDocument::Tree(_) => Ok(Alike::Unlike),
     }
 }
 
