@@ -8,8 +8,8 @@ use std::alloc::Global;
 use std::test::Fail;
 use std::thread::Threads;
 
-/// More bytes than are answered without workers.
-const WORTH_A_BLOCK: usize = 70_000;
+/// More bytes than are answered without workers: more than four reads.
+const WORTH_A_BLOCK: usize = 300_000;
 
 /// Whether a run of two documents by two workers, in such pieces, writes both.
 fn is_run_by_two<R: Threads + Sync, G: Gate + Sync>(
