@@ -7,7 +7,7 @@ ghost use Rattle.jp_explain.specs.Picture.{IsHelp};
 
 use crate::line::PlainLine;
 use crate::line_cause::cause_of;
-use crate::line_explanation::explain_unreadable;
+use crate::line_explanation::{LineExplanation, explain_unreadable};
 use jp_doc::DocFault;
 use jp_line_scan::{LineExpected, LineReason, LineRule};
 use jp_number::Numbers;
@@ -15,6 +15,9 @@ use std::alloc::{AllocError, Global};
 
 /// What helps where a number is not whole, or beyond what a float can be.
 const DECIMALS_HELP: &str = "--decimals reads such a number";
+
+/// The most bytes of an unreadable line that is scanned: so a long one costs little more than a good one.
+const LONGEST_SCANNED: usize = 1_000_000;
 
 /// Whether a document may go on so in the next line.
 fn may_go_on(expected: LineExpected) -> bool
@@ -51,9 +54,21 @@ pub fn document_help(reason: &LineReason) -> Option<&'static str> {
     }
 }
 
+/// Where an unreadable line goes wrong, and what is to be said of that place; nothing of a long one.
+fn scanned(
+    alloc: Global,
+    line: &[u8],
+    numbers: Numbers,
+) -> Result<Option<LineExplanation>, AllocError> {
+    if line.len() > LONGEST_SCANNED {
+        return Ok(None);
+    }
+    explain_unreadable(alloc, line, numbers)
+}
+
 /// What helps with a line of that fault that was read by these numbers: of an unreadable line what its first
-/// bytes show, or else the words of `line_help`; nothing where it is not known. An unreadable line is scanned
-/// for where it goes wrong, and no other one is looked at.
+/// bytes show, or else the words of `line_help`; nothing where it is not known. An unreadable line of at most
+/// 1,000,000 bytes is scanned for where it goes wrong, and no other one is looked at.
 ///
 /// # Errors
 ///
@@ -72,7 +87,7 @@ pub fn help_with_line(
         DocFault::NotWhole => Ok(Some(DECIMALS_HELP)),
         DocFault::Unreadable => match cause_of(line) {
             Some(cause) => Ok(Some(cause)),
-            None => match explain_unreadable(alloc, line, numbers)? {
+            None => match scanned(alloc, line, numbers)? {
                 Some(told) => Ok(line_help(&told.reason)),
                 None => Ok(None),
             },
@@ -102,7 +117,7 @@ pub fn help_with_document(
         DocFault::NotWhole => Ok(Some(DECIMALS_HELP)),
         DocFault::Unreadable => match cause_of(document) {
             Some(cause) => Ok(Some(cause)),
-            None => match explain_unreadable(alloc, document, numbers)? {
+            None => match scanned(alloc, document, numbers)? {
                 Some(told) => Ok(document_help(&told.reason)),
                 None => Ok(None),
             },
