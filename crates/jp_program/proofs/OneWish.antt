@@ -1,7 +1,7 @@
 -- Words want one thing, and what is asked for is that.
-use Rattle.std.proofs.Common.{◌≡◌, ◌∙◌, ℕ, ◌+◌, inl, inr, Bool, true, false, List, [], ◌∷◌, Option, Some, None}
+use Rattle.std.proofs.Common.{◌≡◌, ◌∙◌, ℕ, ◌+◌, inl, inr, Bool, true, false, List, [], ◌∷◌, Option, Some}
 use Rattle.std.proofs.Common.{refl, sym, Result, Ok, Err, IsErrAnd, ap, subst, length, unwrap_or, codes}
-use Rattle.std.proofs.Common.{arith, ◌==◌, ◌||◌, if◌then◌else◌}
+use Rattle.std.proofs.Common.{None, arith, ◌==◌, ◌||◌, if◌then◌else◌}
 use Rattle.std.specs.Prelude.{nat_lt}
 use Rattle.std.specs.Str.{chars}
 use Rattle.std.specs.Str.Parse.{digits_value, without_leading_plus}

@@ -168,7 +168,8 @@ module _ (w : Wanted) where
 
   pub passes : (input : Input) (old new : Option (List ℕ)) (n before : ℕ)
       → IsToldIn KeepGoing w None input old new
-      → IfSome input.1 (λ bytes. n ≡ passed_in (policy w.numbers KeepGoing) (documents (numbering_in w) bytes))
+      → IfSome input.1 (λ bytes. n
+      ≡ passed_in (policy w.numbers KeepGoing) (documents (numbering_in w) bytes))
       → Passes w input (old, before) (new, counted before n)
   passes (name, None) old new n before h c = tt
   passes (name, Some bytes) old new n before h c = (

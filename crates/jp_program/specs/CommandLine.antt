@@ -75,8 +75,8 @@ abbrev pub with_query : App → App
 with_query a = with_rule (with_rule a query_rule) files_rule
 
 -- `jp [-o FORM] [--where FILTER] [--workers N] [--piece N] [--batch N] [--first N] [--check] [-d] [-k]
--- [--explain] [-e] [--documents] [--with-filename] QUERY [FILE]...`, where `-o` is `--output`, `-d` is `--decimals`, `-k` is
--- `--keep-going` and `-e` is `--exit-status`; with `--help` and `--version`
+-- [--explain] [-e] [--documents] [--with-filename] QUERY [FILE]...`, where `-o` is `--output`, `-d` is
+-- `--decimals`, `-k` is `--keep-going` and `-e` is `--exit-status`; with `--help` and `--version`
 abbrev pub jp_app : App
 jp_app = with_query (with_flags (with_numbers (with_filter (with_output (with_version
     (new_app (codes "jp")))))))

@@ -21,8 +21,8 @@ pub(crate) const MAX_DOCUMENTS: u64 = 1_000_000;
 /// The number of bytes that one call of `read` is asked for: as many as a pipe of Linux holds.
 pub(crate) const READ_SIZE: usize = 65_536;
 
-/// How many reads a run has made where workers are started: what fewer bring, a quarter of a megabyte at most,
-/// is answered in little more time than threads take to start.
+/// How many reads a run has made where workers are started: what fewer bring, a quarter of a megabyte at
+/// most, is answered in little more time than threads take to start.
 pub(crate) const FIRST_READS: u64 = 4;
 
 /// How many bytes wait at least where workers are started: fewer are answered while threads would start.
