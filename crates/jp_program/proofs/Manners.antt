@@ -31,7 +31,8 @@ numbering_so c d m n cutting before =
 
 -- and so is a manner
 pub manner_so : (c d : Numbering) (o p : Output) (h k : List ℕ) (a b : Numbers) (x y : OnFault) → c ≡ d
-    → o ≡ p → h ≡ k → a ≡ b → x ≡ y → manner c (form_of o h) (policy a x) ≡ manner d (form_of p k) (policy b y)
+    → o ≡ p → h ≡ k → a ≡ b → x ≡ y
+    → manner c (form_of o h) (policy a x) ≡ manner d (form_of p k) (policy b y)
 manner_so c d o p h k a b x y numbering output head numbers on_fault =
     ap (λ (z : Numbering). manner z (form_of o h) (policy a x)) numbering
     ∙ ap (λ (z : Output). manner d (form_of z h) (policy a x)) output
