@@ -1,5 +1,5 @@
-//! A source over memory that keeps what stood as each of its reads began, and runs over it: of it alone `run`
-//! says by its clauses `prompt` and `window` when lines were answered.
+//! A source over memory that keeps what stood as each of its reads began. Of a source that keeps no such list
+//! the clauses `prompt` and `window` of `run` say nothing: of this one they say how each read began.
 
 ghost use Rattle.std.specs.Prelude.{◌≡◌, ◌<◌, ◌≤◌, ◌++◌, ◌∷◌, [], Some, false, IfOk, IfSome, length, take};
 ghost use Rattle.std.specs.Prelude.{option_map};
@@ -243,6 +243,17 @@ fn run_kept<'a, R: Threads + Sync, G: Gate + Sync>(
 /// and whether they are passed on.
 type Wanted<'a> = (bool, &'a [u8], &'a [u8], bool);
 
+/// Whether these reads began so.
+fn began_so(reads: &[KeptRead<'_>], wanted: &[Wanted<'_>]) -> bool {
+    let began = reads.iter().zip(wanted.iter()).all(|(read, (ready, rest, written, flushed))| {
+        read.ready == *ready
+            && read.rest == *rest
+            && read.written.as_slice() == *written
+            && read.flushed == *flushed
+    });
+    began && reads.len() == wanted.len()
+}
+
 /// Whether a run by one worker, in batches of so many documents, reads so.
 fn reads_so<R: Threads + Sync>(
     rt: &R,
@@ -257,13 +268,11 @@ fn reads_so<R: Threads + Sync>(
     let Some(reads) = kept else {
         return Err(RunFault::Memory);
     };
-    let are_wanted = reads.iter().zip(wanted.iter()).all(|(read, wanted)| {
-        (read.ready, read.rest, read.written.as_slice(), read.flushed) == *wanted
-    });
-    Ok(end?.lines == 4 && reads.len() == wanted.len() && are_wanted)
+    Ok(end?.lines == 4 && began_so(&reads, wanted))
 }
 
-/// Each read may wait. The second begins in the midst of a line, the third behind its end.
+/// Each read may wait. The second begins in the midst of a line, the third behind its end, and the last
+/// behind the begin of a line that has no end.
 #[test]
 fn reads_that_wait(rt: HostRuntime) -> Result<(), Fail> {
     let plan = [(2, false), (2, false), (5, false), (9, false)];
