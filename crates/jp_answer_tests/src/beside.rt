@@ -246,8 +246,9 @@ fn leaves_second<R: Threads + Sync>(rt: &R, alloc: Global) -> Option<bool> {
     let Ok(ring) = Ring::new(alloc) else {
         return None;
     };
+    let first = blocks.get(..1)?;
+    let second = blocks.get(1..)?;
     let mut run = || -> Option<bool> {
-        let (first, second) = blocks.split_at(1);
         hand_out(&ring, first, 0)?;
         let is_first = first.iter().all(|block| is_found(&ring, block, 1));
         hand_out(&ring, second, 1)?;
