@@ -1,4 +1,4 @@
-use Rattle.std.proofs.Common.{◌≡◌, ℕ, List, [], ◌++◌, Option, Some, None, IfSome, option_map, sym, subst}
+use Rattle.std.proofs.Common.{◌≡◌, ℕ, List, [], Option, Some, None, IfSome, option_map, sym, subst}
 use Rattle.std.specs.List.{All}
 use Rattle.jp_run.specs.Answered.{manner_of}
 use Rattle.jp_run.specs.AskedTexts.{asked_by}
