@@ -1,7 +1,7 @@
 //! What an unreadable line is in the place of a document, by its first bytes.
 
 /// What makes a document of an unreadable line, where its bytes show what it is: one behind a byte order
-/// mark, in `gzip` or UTF-16, a comment, or a document behind other text. Nothing of another line.
+/// mark, compressed, in UTF-16, a comment, or a document behind other text. Nothing of another line.
 pub(crate) fn cause_of(line: &[u8]) -> Option<&'static str> {
     encoded(line).or_else(|| written(line))
 }
