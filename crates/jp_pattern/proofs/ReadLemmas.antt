@@ -55,6 +55,18 @@ refused : (t : Text) (fault : PatternFault) → Fails fault (read_within t) → 
 refused t faults.NoPattern e = no_pattern t e
 refused t faults.Memory e = tt
 
+-- a text is a pattern where it is read as the tree, and the tree keeps to the limits
+pub checked : (t : Text) (p : Pattern) → read t ≡ Some p → has_counts p ≡ true → nat_le (depth p) 64 ≡ true
+    → nat_le (size p) 10_000 ≡ true → IsPatternOf t p
+checked t p e counts deep large = record {
+  shapes = read_sound t p e;
+  in_profile = record {
+    counts = has_counts_sound p counts;
+    depth_fits = leb-true (depth p) 64 deep;
+    size_fits = leb-true (size p) 10_000 large;
+  };
+}
+
 -- what reads ensures what is said of it
 pub tree_read : (t : Text) (result : Result Node PatternFault) → Gives node_of result (read_within t)
     → IsTreeOf t result
