@@ -1,6 +1,7 @@
 pub mod CharacterLemmas
 pub mod Derivatives
 pub mod EmptyLemmas
+pub mod ExampleLists
 pub mod MemberExamples
 pub mod MemberLemmas
 pub mod NamesSound

@@ -1,5 +1,6 @@
-use Rattle.std.proofs.Common.{refl}
-use Rattle.jp_pattern.proofs.PatternsRead.{unread}
+use Rattle.std.proofs.Common.{[], ◌∷◌, refl}
+use Rattle.std.specs.Prelude.{codes}
+use Rattle.jp_pattern.proofs.ExampleLists.{none_read}
 use Rattle.jp_pattern.proofs.PatternsSound.{read_sound}
 use Rattle.jp_pattern.proofs.examples.quantities.Goals as goal
 
@@ -13,32 +14,7 @@ returns c = record {
   leading_zeros = read_sound _ _ refl;
   digits = read_sound _ _ refl;
   no_end = read_sound _ _ refl;
-  refused = (
-    unread _ refl,
-    (
-      unread _ refl,
-      (
-        unread _ refl,
-        (
-          unread _ refl,
-          (
-            unread _ refl,
-            (
-              unread _ refl,
-              (
-                unread _ refl,
-                (
-                  unread _ refl,
-                  (
-                    unread _ refl,
-                    (unread _ refl, (unread _ refl, (unread _ refl, (unread _ refl, tt)))),
-                  ),
-                ),
-              ),
-            ),
-          ),
-        ),
-      ),
-    ),
-  );
+  refused = none_read (λ t. t) (codes "a{}" ∷ codes "a{,}" ∷ codes "a{1,2,}" ∷ codes "a{a}" ∷ codes "a{:}"
+      ∷ codes "a{/}" ∷ codes "a{1 }" ∷ codes "a{-1}" ∷ codes "a+?" ∷ codes "a?+" ∷ codes "a{1}{1}"
+      ∷ codes "(*)" ∷ codes "|+" ∷ []) refl;
 }
