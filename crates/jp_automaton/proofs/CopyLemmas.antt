@@ -2,10 +2,10 @@
 use Rattle.std.proofs.Common.{◌≡◌, ℕ, zero, suc, ◌+◌, ◌-◌, ◌*◌, ◌≤◌, ◌<◌, Bool, true, false, ◌++◌, ◌&&◌, ◌||◌}
 use Rattle.std.proofs.Common.{nat_le, refl, ap, ap₂, ◌∙◌, subst, arith, add-mul}
 use Rattle.std.proofs.lemmas.Bool.{le-leb, lt-leb}
-use Rattle.jp_pattern.specs.Unrolled.{Unrolled, counted, counted_on, letters}
+use Rattle.jp_pattern.specs.Unrolled.{Unrolled, counted, letters}
 use Rattle.jp_automaton.specs.inner.Simulation.{exits, step, Inactive}
 use Rattle.jp_automaton.proofs.SkipLemmas.{inactive_exits, inactive_step}
-use Rattle.jp_pattern.proofs.UnrolledLemmas.{letters-counted, letters-counted_on}
+use Rattle.jp_pattern.proofs.UnrolledLemmas.{letters-counted}
 
 module _ (a : Unrolled) (least i : ℕ) where
   size_at : (l m k : ℕ) → l ≡ least - i → k ≡ least - (i + 1) → letters (counted l (suc m) a)
@@ -19,15 +19,6 @@ module _ (a : Unrolled) (least i : ℕ) where
   counted-letters most lt =
       let e : most - i ≡ suc (most - (i + 1)) = omega arith in
       rw e (size_at (least - i) (most - (i + 1)) (least - (i + 1)) refl refl)
-
-  open_size_at : (l k : ℕ) → l ≡ least - i → k ≡ least - (i + 1) → i < least → letters (counted_on l a)
-      ≡ letters a + letters (counted_on k a)
-  open_size_at zero k e f lt = absurd (omega arith)
-  open_size_at (suc l) k e f lt = let g : k ≡ l = omega arith in rw g refl
-
-  pub open-letters : i < least → letters (counted_on (least - i) a)
-      ≡ letters a + letters (counted_on (least - (i + 1)) a)
-  open-letters lt = open_size_at (least - i) (least - (i + 1)) refl refl lt
 
   module _ (active : ℕ → Bool) (off : ℕ) (entered : Bool) where
     exits_at : (l m k : ℕ) → l ≡ least - i → k ≡ least - (i + 1)
@@ -50,17 +41,6 @@ module _ (a : Unrolled) (least i : ℕ) where
         let e : most - i ≡ suc (most - (i + 1)) = omega arith in
         rw e (exits_at (least - i) (most - (i + 1)) (least - (i + 1)) refl refl)
 
-    open_exits_at : (l k : ℕ) → l ≡ least - i → k ≡ least - (i + 1) → i < least →
-        exits active (counted_on l a) off entered ≡ exits active (counted_on k a) (off + letters a)
-        (exits active a off entered)
-    open_exits_at zero k e f lt = absurd (omega arith)
-    open_exits_at (suc l) k e f lt = let g : k ≡ l = omega arith in rw g refl
-
-    pub open-exits : i < least →
-        exits active (counted_on (least - i) a) off entered ≡ exits active (counted_on (least - (i + 1)) a)
-        (off + letters a) (exits active a off entered)
-    open-exits lt = open_exits_at (least - i) (least - (i + 1)) refl refl lt
-
 module _ (a : Unrolled) (least i : ℕ) (active : ℕ → Bool) (c off : ℕ) (entered : Bool) where
   step_at : (l m k : ℕ) → l ≡ least - i → k ≡ least - (i + 1)
       → step active c (counted l (suc m) a) off entered
@@ -75,18 +55,6 @@ module _ (a : Unrolled) (least i : ℕ) (active : ℕ → Bool) (c off : ℕ) (e
   counted-step most lt =
       let e : most - i ≡ suc (most - (i + 1)) = omega arith in
       rw e (step_at (least - i) (most - (i + 1)) (least - (i + 1)) refl refl)
-
-  open_step_at : (l k : ℕ) → l ≡ least - i → k ≡ least - (i + 1) → i < least
-      → step active c (counted_on l a) off entered
-      ≡ step active c a off entered ++ step active c (counted_on k a) (off + letters a)
-      (exits active a off entered)
-  open_step_at zero k e f lt = absurd (omega arith)
-  open_step_at (suc l) k e f lt = let g : k ≡ l = omega arith in rw g refl
-
-  pub open-step : i < least → step active c (counted_on (least - i) a) off entered
-      ≡ step active c a off entered ++ step active c (counted_on (least - (i + 1)) a) (off + letters a)
-      (exits active a off entered)
-  open-step lt = open_step_at (least - i) (least - (i + 1)) refl refl lt
 
 -- ---- copies that are neither entered nor active
 
@@ -132,21 +100,6 @@ module _ (active : ℕ → Bool) (a : Unrolled) where
       ∙ ap₂ (λ x y. exits active (counted x y a) ((off + letters a) + n * letters a) false) f g
       ∙ ap (λ x. exits active (counted (l - suc n) (suc m - suc n) a) x false) (further n off)
 
-  pub skipped_on : (n l off : ℕ) → n ≤ l → Inactive active off (n * letters a) →
-      exits active (counted_on l a) off false ≡ exits active (counted_on (l - n) a)
-      (off + n * letters a) false
-  skipped_on zero l off le h =
-      let e : off + 0 * letters a ≡ off = omega arith in
-      let f : l - 0 ≡ l = omega arith in
-      rw (e, f) refl
-  skipped_on (suc n) zero off le h = absurd (omega arith)
-  skipped_on (suc n) (suc l) off le h =
-      let f : l - n ≡ suc l - suc n = omega arith in
-      ap (λ e. exits active (counted_on l a) (off + letters a) e)
-      (inactive_exits active a off (front n off h))
-      ∙ skipped_on n l (off + letters a) (omega arith) (back n off h)
-      ∙ ap₂ (λ x y. exits active (counted_on x a) y false) f (further n off)
-
   module _ (c : ℕ) where
     one_unread : (l m off : ℕ) → Inactive active off (letters a) →
         step active c (counted l (suc m) a) off false ≡ step active c (counted (l - 1) m a)
@@ -178,22 +131,6 @@ module _ (active : ℕ → Bool) (a : Unrolled) where
         ∙ ap₂ (λ x y. step active c (counted x y a) ((off + letters a) + n * letters a) false) f g
         ∙ ap (λ x. step active c (counted (l - suc n) (suc m - suc n) a) x false) (further n off)
 
-    pub unread_on : (n l off : ℕ) → n ≤ l → Inactive active off (n * letters a) →
-        step active c (counted_on l a) off false ≡ step active c (counted_on (l - n) a)
-        (off + n * letters a) false
-    unread_on zero l off le h =
-        let e : off + 0 * letters a ≡ off = omega arith in
-        let f : l - 0 ≡ l = omega arith in
-        rw (e, f) refl
-    unread_on (suc n) zero off le h = absurd (omega arith)
-    unread_on (suc n) (suc l) off le h =
-        let f : l - n ≡ suc l - suc n = omega arith in
-        ap₂ (λ x y. x ++ y) (inactive_step active c a off (front n off h))
-        (ap (λ e. step active c (counted_on l a) (off + letters a) e)
-        (inactive_exits active a off (front n off h)))
-        ∙ unread_on n l (off + letters a) (omega arith) (back n off h)
-        ∙ ap₂ (λ x y. step active c (counted_on x a) y false) f (further n off)
-
 -- ---- how many letters are left
 
 pub letters-skipped : (a : Unrolled) (n l m past : ℕ) → n ≤ m →
@@ -205,14 +142,4 @@ letters-skipped a n l m past le =
     letters-counted a (l - n) (m - n) in
     let sum : m * letters a ≡ n * letters a + (m - n) * letters a = ap (λ x. x * letters a) e
     ∙ add-mul n (m - n) (letters a) in
-    omega (arith, all, rest, sum)
-
-pub letters-skipped_on : (a : Unrolled) (n l past : ℕ) → n ≤ l →
-    (past + n * letters a) + letters (counted_on (l - n) a) ≡ past + letters (counted_on l a)
-letters-skipped_on a n l past le =
-    let e : l + 1 ≡ n + (l - n + 1) = omega arith in
-    let all : letters (counted_on l a) ≡ (l + 1) * letters a = letters-counted_on a l in
-    let rest : letters (counted_on (l - n) a) ≡ (l - n + 1) * letters a = letters-counted_on a (l - n) in
-    let sum : (l + 1) * letters a ≡ n * letters a + (l - n + 1) * letters a = ap (λ x. x * letters a) e
-    ∙ add-mul n (l - n + 1) (letters a) in
     omega (arith, all, rest, sum)

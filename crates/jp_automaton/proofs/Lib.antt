@@ -10,6 +10,7 @@ pub mod LaneLemmas
 pub mod LeftOutLemmas
 pub mod MeaningLemmas
 pub mod NodeKindLemmas
+pub mod OnLemmas
 pub mod PrefilterLemmas
 pub mod ProfileLemmas
 pub mod ReadsLemmas

@@ -2,9 +2,9 @@
 use Rattle.std.proofs.Common.{◌≡◌, ℕ, ◌+◌, ◌-◌, ◌*◌, ◌≤◌, ◌<◌, false, List, [], ◌++◌, append_assoc}
 use Rattle.std.proofs.Common.{append-nil, sym, ap, ap₂, ◌∙◌, subst, arith}
 use Rattle.jp_automaton.specs.declared.cursor.Cursor.{Cursor}
-use Rattle.jp_pattern.specs.Unrolled.{Unrolled, seq, either, counted, counted_on, letters}
+use Rattle.jp_pattern.specs.Unrolled.{Unrolled, seq, either, counted, letters}
 use Rattle.jp_automaton.specs.inner.Simulation.{step, is_elem, Inactive, IsStep}
-use Rattle.jp_automaton.proofs.CopyLemmas.{counted-step, open-step, unread, unread_on}
+use Rattle.jp_automaton.proofs.CopyLemmas.{counted-step, unread}
 
 joined : (before here after rest : List ℕ) → after ≡ before ++ here → after ++ rest ≡ before ++ (here ++ rest)
 joined before here after rest e = ap (λ xs. xs ++ rest) e ∙ append_assoc before here rest
@@ -41,13 +41,6 @@ module _ (positions : List ℕ) (c : ℕ) (fin : List ℕ) where
         (ap (λ xs. o ++ xs) (sym (counted-step a least i (is_elem positions) c x.past x.entered most lt))
         ∙ kept)
 
-    pub copy_on_reads : (least i : ℕ) → i < least →
-        o ++ step (is_elem positions) c (counted_on (least - i) a) x.past x.entered ≡ fin →
-        n ++ step (is_elem positions) c (counted_on (least - (i + 1)) a) y.past y.entered ≡ fin
-    copy_on_reads least i lt kept =
-        seq_reads (counted_on (least - (i + 1)) a)
-        (ap (λ xs. o ++ xs) (sym (open-step a least i (is_elem positions) c x.past x.entered lt)) ∙ kept)
-
   module _ (a : Unrolled) (i n size least : ℕ) (x : Cursor) (o : List ℕ) (e : size ≡ letters a)
       (none : x.entered ≡ false)
       (inactive : Inactive (is_elem positions) x.past (n * size)) where
@@ -67,17 +60,4 @@ module _ (positions : List ℕ) (c : ℕ) (fin : List ℕ) where
         ∙ ap (λ xs. o ++ xs) (sym (unread (is_elem positions) a c n (least - i) (most - i) x.past le
         inactive_letters))
         ∙ ap (λ b. o ++ step (is_elem positions) c (counted (least - i) (most - i) a) x.past b) (sym none)
-        ∙ kept
-
-    pub skip_on_reads : n ≤ least - i →
-        o ++ step (is_elem positions) c (counted_on (least - i) a) x.past x.entered ≡ fin →
-        o ++ step (is_elem positions) c (counted_on (least - (i + n)) a) (x.past + n * size) x.entered ≡ fin
-    skip_on_reads le kept =
-        let f : least - (i + n) ≡ least - i - n = omega arith in
-        ap (λ k. o ++ step (is_elem positions) c (counted_on k a) (x.past + n * size) x.entered) f
-        ∙ ap₂ (λ s b. o ++ step (is_elem positions) c (counted_on (least - i - n) a) (x.past + n * s) b) e
-        none
-        ∙ ap (λ xs. o ++ xs) (sym (unread_on (is_elem positions) a c n (least - i) x.past le
-        inactive_letters))
-        ∙ ap (λ b. o ++ step (is_elem positions) c (counted_on (least - i) a) x.past b) (sym none)
         ∙ kept

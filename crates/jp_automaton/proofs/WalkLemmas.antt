@@ -6,13 +6,13 @@ use Rattle.jp_automaton.specs.declared.cursor.Cursor.{Cursor}
 use Rattle.jp_automaton.specs.declared.expressions.Expression.{Expression}
 use Rattle.jp_automaton.specs.Expressions.{meaning, in_turn_of, unrolled_in, unrolled_in_turn}
 use Rattle.jp_automaton.specs.Expressions.{branches_before}
-use Rattle.jp_pattern.specs.Unrolled.{Unrolled, unrolled, nothing, seq, either, plus, counted, counted_on}
+use Rattle.jp_pattern.specs.Unrolled.{Unrolled, unrolled, nothing, seq, either, plus, counted}
 use Rattle.jp_pattern.specs.Unrolled.{letters}
 use Rattle.jp_automaton.specs.inner.Simulation.{exits, is_elem, Inactive, IsAt, IsWalk, or_entered}
 use Rattle.jp_automaton.specs.inner.Simulation.{entered_as}
-use Rattle.jp_pattern.proofs.UnrolledLemmas.{letters-counted, letters-counted_on}
-use Rattle.jp_automaton.proofs.CopyLemmas.{counted-letters, counted-exits, open-letters, open-exits, skipped}
-use Rattle.jp_automaton.proofs.CopyLemmas.{skipped_on, letters-skipped, letters-skipped_on}
+use Rattle.jp_pattern.proofs.UnrolledLemmas.{letters-counted}
+use Rattle.jp_automaton.proofs.CopyLemmas.{counted-letters, counted-exits, skipped}
+use Rattle.jp_automaton.proofs.CopyLemmas.{letters-skipped}
 
 or_assoc : (x y z : Bool) → ((x || y) || z) ≡ (x || (y || z))
 or_assoc true y z = refl
@@ -97,16 +97,6 @@ module _ (positions : List ℕ) where
       stands = g.stands;
     }
 
-    pub copy_on_walk : i < least → IsWalk positions (counted_on (least - (i + 1)) a) y z
-        → IsWalk positions (counted_on (least - i) a) x z
-    copy_on_walk lt g = record {
-      past = omega (arith, f.past, g.past, open-letters a least i lt);
-      entered = g.entered ∙ ap₂ (λ n e. exits (is_elem positions) (counted_on (least - (i + 1)) a) n e) f.past
-          f.entered
-          ∙ sym (open-exits a least i (is_elem positions) x.past x.entered lt);
-      stands = g.stands;
-    }
-
   module _ (a : Unrolled) (n least : ℕ) (x z : Cursor) (none : x.entered ≡ false)
       (inactive : Inactive (is_elem positions) x.past (n * letters a)) where
     pub skip_walk : (most : ℕ) → n ≤ most
@@ -120,28 +110,6 @@ module _ (positions : List ℕ) where
           ∙ ap (λ e. exits (is_elem positions) (counted least most a) x.past e) (sym none);
       stands = g.stands;
     }
-
-    pub skip_on_walk : n ≤ least
-        → IsWalk positions (counted_on (least - n) a) (record x { past = x.past + n * letters a }) z →
-        IsWalk positions (counted_on least a) x z
-    skip_on_walk le g = record {
-      past = g.past ∙ letters-skipped_on a n least x.past le;
-      entered = g.entered ∙ ap (λ e. exits (is_elem positions) (counted_on (least - n) a)
-          (x.past + n * letters a) e) none
-          ∙ sym (skipped_on (is_elem positions) a n least x.past le inactive)
-          ∙ ap (λ e. exits (is_elem positions) (counted_on least a) x.past e) (sym none);
-      stands = g.stands;
-    }
-
-  -- the last copy of `{n,}`
-  pub last_walk : (a : Unrolled) (x y : Cursor) → IsWalk positions a x y
-      → IsWalk positions (counted_on 0 a) x (or_entered x.entered y)
-  last_walk a x y f = record {
-    past = f.past;
-    entered = ap (λ e. x.entered || e) f.entered;
-    stands =
-        f.stands;
-  }
 
   -- a copy that may be repeated ends where one does
   pub plus_walk : (a : Unrolled) (x y : Cursor) → IsWalk positions (plus a) x y → IsWalk positions a x y
@@ -157,26 +125,6 @@ module _ (a : Unrolled) (least most i here past : ℕ) (lt : i < most)
 
   pub copy_fits : here + letters a ≤ 10_000
   copy_fits = omega (arith, total, fits, counted-letters a least i most lt)
-
-module _ (a : Unrolled) (least i here past : ℕ) (lt : i < least)
-    (total : here + letters (counted_on (least - i) a) ≡ past + letters (counted_on least a))
-    (fits : past + letters (counted_on least a) ≤ 10_000) where
-  pub copies_on_fit : here + (least - i) * letters a ≤ 10_000
-  copies_on_fit =
-      let more : (least - i) * letters a ≤ (least - i + 1) * letters a =
-      mul-le-mul_right (letters a) (omega arith) in
-      omega (arith, total, fits, letters-counted_on a (least - i), more)
-
-  pub copy_on_fits : here + letters a ≤ 10_000
-  copy_on_fits = omega (arith, total, fits, open-letters a least i lt)
-
-pub last_fits : (a : Unrolled) (least i here past : ℕ) → least ≤ i →
-    here + letters (counted_on (least - i) a) ≡ past + letters (counted_on least a) →
-    past + letters (counted_on least a) ≤ 10_000 → here + letters a ≤ 10_000
-last_fits a least i here past le total fits =
-    let e : least - i ≡ 0 = omega arith in
-    let t = rw e at total in
-    omega (arith, t, fits)
 
 pub some_idle : (past n m s : ℕ) → n ≤ m → past + m * s ≤ 10_000 → past + n * s ≤ 10_000
 some_idle past n m s le fits = let h : n * s ≤ m * s = mul-le-mul_right s le in omega arith
@@ -207,17 +155,6 @@ module _ (positions : List ℕ) (a : Unrolled) (i n size least : ℕ) (x z : Cur
       skip_walk positions a n (least - i) x z none inactive_letters (most - i) le
       (subst (λ k. IsWalk positions (counted (least - i - n) k a) (behind (letters a)) z) g u)
 
-  pub skip_copies_on : n ≤ least - i →
-      IsWalk positions (counted_on (least - (i + n)) a)
-      (record { past = x.past + n * size; index = x.index; entered = x.entered }) z →
-      IsWalk positions (counted_on (least - i) a) x z
-  unfolding behind
-  skip_copies_on le w =
-      let f : least - (i + n) ≡ least - i - n = omega arith in
-      let v = subst (λ s. IsWalk positions (counted_on (least - (i + n)) a) (behind s) z) e w in
-      skip_on_walk positions a n (least - i) x z none inactive_letters le
-      (subst (λ k. IsWalk positions (counted_on k a) (behind (letters a)) z) f v)
-
 pub total_skipped : (a : Unrolled) (least most i n size here total : ℕ) → size ≡ letters a → n ≤ most - i →
     here + letters (counted (least - i) (most - i) a) ≡ total →
     (here + n * size) + letters (counted (least - (i + n)) (most - (i + n)) a) ≡ total
@@ -227,12 +164,3 @@ total_skipped a least most i n size here total e le kept =
     ap₂ (λ k m. (here + n * size) + letters (counted k m a)) f g
     ∙ ap (λ s. (here + n * s) + letters (counted (least - i - n) (most - i - n) a)) e
     ∙ letters-skipped a n (least - i) (most - i) here le ∙ kept
-
-pub total_skipped_on : (a : Unrolled) (least i n size here total : ℕ) → size ≡ letters a → n ≤ least - i →
-    here + letters (counted_on (least - i) a) ≡ total
-    → (here + n * size) + letters (counted_on (least - (i + n)) a) ≡ total
-total_skipped_on a least i n size here total e le kept =
-    let f : least - (i + n) ≡ least - i - n = omega arith in
-    ap (λ k. (here + n * size) + letters (counted_on k a)) f
-    ∙ ap (λ s. (here + n * s) + letters (counted_on (least - i - n) a)) e
-    ∙ letters-skipped_on a n (least - i) here le ∙ kept

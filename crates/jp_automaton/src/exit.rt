@@ -140,7 +140,7 @@ fn exit_counted(atom: &Expression, active: &[u32], at: Cursor, least: u32, most:
     here.with_entered(either(left, here.entered))
 }
 
-/// Behind the copies of `{least,}`.
+/// Behind the copies of `{least,}`: so many, and one more that may be left out or repeated.
 #[cycle(exit)]
 fn exit_counted_on(atom: &Expression, active: &[u32], at: Cursor, least: u32) -> Cursor
     requires sized { IsTrue (meaning atom.now).is_sized }
@@ -149,19 +149,7 @@ fn exit_counted_on(atom: &Expression, active: &[u32], at: Cursor, least: u32) ->
     requires stands { IsAt active.now at.past at.index }
     ensures { IsWalk active.now (counted_on least (unrolled_in atom.now)) at result }
 {
-    let size = atom.size();
-    let mut here = at;
-    let mut i = 0;
-    while i < least {
-        let idle = idle_copies(active, here, size, least - i);
-        if idle > 0 {
-            here.past += idle * size;
-            i += idle;
-            continue;
-        }
-        here = exit(atom, active, here);
-        i += 1;
-    }
+    let here = exit_counted(atom, active, at, least, least);
     let behind = exit(atom, active, here);
     behind.with_entered(either(here.entered, behind.entered))
 }

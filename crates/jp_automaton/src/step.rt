@@ -169,7 +169,7 @@ fn step_counted(
     Ok(here.with_entered(either(left, here.entered)))
 }
 
-/// Behind the copies of `{least,}`.
+/// Behind the copies of `{least,}`: so many, and one more that may be left out or repeated.
 #[cycle(step)]
 fn step_counted_on(
     atom: &Expression,
@@ -185,19 +185,8 @@ fn step_counted_on(
     ensures { IfOk result (λ end. IsStep input.entry.active.now input.entry.c (counted_on least (unrolled_in
         atom.now)) at end out.old.items out.new.items) }
 {
-    let size = atom.size();
-    let mut here = at;
-    let mut i = 0;
-    while i < least {
-        let idle = idle_copies(input.active, here, size, least - i);
-        if idle > 0 {
-            here.past += idle * size;
-            i += idle;
-            continue;
-        }
-        here = step(atom, input, here, out)?;
-        i += 1;
-    }
+    let copies = Copies { least, most: least };
+    let here = step_counted(atom, input, at, copies, out)?;
     let behind = step_plus(atom, input, here, out)?;
     Ok(behind.with_entered(either(here.entered, behind.entered)))
 }

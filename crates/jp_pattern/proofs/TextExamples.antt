@@ -280,4 +280,3 @@ pub bounds_that_fall : IsNoPattern (codes "a{2,1}")
 bounds_that_fall = beyond _
     (branch (repeat 2 (Some 1) letter_a ∷ [])) (read_sound _ _ refl)
     (λ h. omega arith)
-

@@ -8,12 +8,12 @@ use Rattle.jp_automaton.specs.inner.Simulation.{IsAt, IsWalk, or_entered, entere
 use Rattle.jp_automaton.proofs.KindLemmas.{exact, set_same, known_pieces, known_branches, known_repeat}
 use Rattle.jp_automaton.proofs.SizedLemmas.{all_sized-at}
 use Rattle.jp_automaton.proofs.WalkLemmas.{piece_next, branch_next, drop_none, nothing_walk, seq_walk}
-use Rattle.jp_automaton.proofs.WalkLemmas.{either_walk, or_walk, copy_walk, copy_on_walk, last_walk}
+use Rattle.jp_automaton.proofs.WalkLemmas.{either_walk, or_walk, copy_walk}
 use Rattle.jp_automaton.proofs.WalkLemmas.{copies_fit}
-use Rattle.jp_automaton.proofs.WalkLemmas.{copy_fits, copies_on_fit, copy_on_fits, last_fits, some_idle}
-use Rattle.jp_automaton.proofs.WalkLemmas.{not_entered, skip_copies, skip_copies_on, total_skipped}
-use Rattle.jp_automaton.proofs.WalkLemmas.{total_skipped_on}
-use Rattle.jp_automaton.proofs.CopyLemmas.{counted-letters, open-letters}
+use Rattle.jp_automaton.proofs.WalkLemmas.{copy_fits, some_idle}
+use Rattle.jp_automaton.proofs.WalkLemmas.{not_entered, skip_copies, total_skipped}
+use Rattle.jp_automaton.proofs.CopyLemmas.{counted-letters}
+use Rattle.jp_automaton.proofs.OnLemmas.{on_letters, on_walk}
 use Rattle.jp_automaton.proofs.exit.+exit.Goals as goal
 
 -- ---- an expression
@@ -317,114 +317,23 @@ exit_counted-returns t c =
 
 -- ---- copies without an end
 
-pub exit_counted_on-idle_copies-idle-requires-clause-some
-    : goal.exit_counted_on-idle_copies-idle-requires-clause-some
-exit_counted_on-idle_copies-idle-requires-clause-some t c =
-    let kept = c.loop-i.invariant in
-    let a = unrolled_in c.args.atom.now in
-    let fits = copy_on_fits a c.args.least c.loop-i.i c.loop-i.here.past c.args.at.past c.loop-i-test.true
-    kept.1 c.requires.fits in
-    let e = exact c.size-size.result (pattern_in c.args.atom.now) c.size-size.ensures (omega (arith, fits)) in
-    omega (arith, e, c.requires.some)
-
-pub exit_counted_on-idle_copies-idle-requires-clause-fits
-    : goal.exit_counted_on-idle_copies-idle-requires-clause-fits
-exit_counted_on-idle_copies-idle-requires-clause-fits t c =
-    let kept = c.loop-i.invariant in
-    let a = unrolled_in c.args.atom.now in
-    let fits = copy_on_fits a c.args.least c.loop-i.i c.loop-i.here.past c.args.at.past c.loop-i-test.true
-    kept.1 c.requires.fits in
-    let e = exact c.size-size.result (pattern_in c.args.atom.now) c.size-size.ensures (omega (arith, fits)) in
-    subst (λ s. c.loop-i.here.past + (c.args.least - c.loop-i.i) * s ≤ 10_000) (sym e)
-    (copies_on_fit a c.args.least c.loop-i.i c.loop-i.here.past c.args.at.past c.loop-i-test.true kept.1
-    c.requires.fits)
-
-pub exit_counted_on-overflow_mul-here : goal.exit_counted_on-overflow_mul-here
-exit_counted_on-overflow_mul-here t c =
-    let kept = c.loop-i.invariant in
-    let a = unrolled_in c.args.atom.now in
-    let fits = copy_on_fits a c.args.least c.loop-i.i c.loop-i.here.past c.args.at.past c.loop-i-test.true
-    kept.1 c.requires.fits in
-    let e = exact c.size-size.result (pattern_in c.args.atom.now) c.size-size.ensures (omega (arith, fits)) in
-    let all = subst (λ s. c.loop-i.here.past + (c.args.least - c.loop-i.i) * s ≤ 10_000) (sym e)
-    (copies_on_fit a c.args.least c.loop-i.i c.loop-i.here.past c.args.at.past c.loop-i-test.true kept.1
-    c.requires.fits) in
-    let h = some_idle c.loop-i.here.past c.idle_copies-idle.result (c.args.least - c.loop-i.i)
-    c.size-size.result c.idle_copies-idle.ensures.few all in
-    omega (arith, h)
-
-pub exit_counted_on-overflow_add-here : goal.exit_counted_on-overflow_add-here
-exit_counted_on-overflow_add-here t c =
-    let kept = c.loop-i.invariant in
-    let a = unrolled_in c.args.atom.now in
-    let fits = copy_on_fits a c.args.least c.loop-i.i c.loop-i.here.past c.args.at.past c.loop-i-test.true
-    kept.1 c.requires.fits in
-    let e = exact c.size-size.result (pattern_in c.args.atom.now) c.size-size.ensures (omega (arith, fits)) in
-    let all = subst (λ s. c.loop-i.here.past + (c.args.least - c.loop-i.i) * s ≤ 10_000) (sym e)
-    (copies_on_fit a c.args.least c.loop-i.i c.loop-i.here.past c.args.at.past c.loop-i-test.true kept.1
-    c.requires.fits) in
-    let h = some_idle c.loop-i.here.past c.idle_copies-idle.result (c.args.least - c.loop-i.i)
-    c.size-size.result c.idle_copies-idle.ensures.few all in
-    omega (arith, h)
-
-pub exit_counted_on-loop-i-preserved-then-idle-gt0 : goal.exit_counted_on-loop-i-preserved-then-idle-gt0
-exit_counted_on-loop-i-preserved-then-idle-gt0 t c =
-    let active = c.args.active.now in
-    let kept = c.loop-i.invariant in
-    let a = unrolled_in c.args.atom.now in
-    let fits = copy_on_fits a c.args.least c.loop-i.i c.loop-i.here.past c.args.at.past c.loop-i-test.true
-    kept.1 c.requires.fits in
-    let e = exact c.size-size.result (pattern_in c.args.atom.now) c.size-size.ensures (omega (arith, fits)) in
-    let n = c.idle_copies-idle.result in
-    let none = not_entered c.loop-i.here.entered n c.idle_copies-idle.ensures.not_entered c.if-idle-gt0.true
-    in (
-      λ r w. kept.0 r (skip_copies_on active a c.loop-i.i n c.size-size.result c.args.least c.loop-i.here r e
-          none c.idle_copies-idle.ensures.inactive c.idle_copies-idle.ensures.few w),
-      total_skipped_on a c.args.least c.loop-i.i n c.size-size.result c.loop-i.here.past _ e
-          c.idle_copies-idle.ensures.few kept.1,
-      c.idle_copies-idle.ensures.stands,
-      omega (arith, c.idle_copies-idle.ensures.few, c.loop-i-test.true),
-    )
-
-pub exit_counted_on-exit-here-requires : goal.exit_counted_on-exit-here-requires
-exit_counted_on-exit-here-requires t c = (
+pub exit_counted_on-exit_counted-here-requires : goal.exit_counted_on-exit_counted-here-requires
+exit_counted_on-exit_counted-here-requires t c = (
   search (rules, the_lemmas),
-  let kept = c.loop-i.invariant in (
+  let e = on_letters c.args.least (unrolled_in c.args.atom.now) in (
     c.requires.sized,
-    (
-      copy_on_fits (unrolled_in c.args.atom.now) c.args.least c.loop-i.i
-          c.loop-i.here.past c.args.at.past c.loop-i-test.true kept.1 c.requires.fits,
-      kept.2,
-    ),
+    (c.requires.some, (omega (arith, e, c.requires.fits), c.requires.stands)),
   ),
 )
-
-pub exit_counted_on-loop-i-preserved : goal.exit_counted_on-loop-i-preserved
-exit_counted_on-loop-i-preserved t c =
-    let active = c.args.active.now in
-    let kept = c.loop-i.invariant in
-    let a = unrolled_in c.args.atom.now in (
-      λ r w. kept.0 r (copy_on_walk active a c.args.least c.loop-i.i c.loop-i.here c.exit-here.result r
-          c.exit-here.ensures c.loop-i-test.true w),
-      omega (
-        arith,
-        kept.1,
-        open-letters a c.args.least c.loop-i.i c.loop-i-test.true,
-        c.exit-here.ensures.past,
-      ),
-      c.exit-here.ensures.stands,
-      omega (arith, c.loop-i-test.true),
-    )
 
 pub exit_counted_on-exit-behind-requires : goal.exit_counted_on-exit-behind-requires
 exit_counted_on-exit-behind-requires t c = (
   search (rules, the_lemmas),
-  let kept = c.loop-i.invariant in (
+  let e = on_letters c.args.least (unrolled_in c.args.atom.now) in (
     c.requires.sized,
     (
-      last_fits (unrolled_in c.args.atom.now) c.args.least c.loop-i.i c.loop-i.here.past
-          c.args.at.past (omega (arith, c.loop-i-test.false)) kept.1 c.requires.fits,
-      kept.2,
+      omega (arith, e, c.exit_counted-here.ensures.past, c.requires.fits),
+      c.exit_counted-here.ensures.stands,
     ),
   ),
 )
@@ -432,17 +341,13 @@ exit_counted_on-exit-behind-requires t c = (
 pub exit_counted_on-returns : goal.exit_counted_on-returns
 exit_counted_on-returns t c =
     let active = c.args.active.now in
-    let kept = c.loop-i.invariant in
-    let here = c.loop-i.here in
-    let y = c.exit-behind.result in
     let a = unrolled_in c.args.atom.now in
-    let none : c.args.least - c.loop-i.i ≡ 0 = omega (arith, c.loop-i-test.false) in
-    let w = subst (λ n. IsWalk active (counted_on n a) here (or_entered here.entered y)) (sym none)
-    (last_walk active a here y c.exit-behind.ensures) in
-    let is : c.with_entered.result ≡ or_entered here.entered y = c.with_entered.ensures
-    ∙ ap (λ b. entered_as b y) c.either.ensures in
+    let here = c.exit_counted-here.result in
+    let behind = c.exit-behind.result in
+    let is : c.with_entered.result ≡ or_entered here.entered behind = c.with_entered.ensures
+    ∙ ap (λ b. entered_as b behind) c.either.ensures in
     subst (λ r. IsWalk active (counted_on c.args.least a) c.args.at r) (sym is)
-    (kept.0 (or_entered here.entered y) w)
+    (on_walk active c.args.least a c.args.at here behind c.exit_counted-here.ensures c.exit-behind.ensures)
 
 pub exit_in_turn-returns : goal.exit_in_turn-returns
 exit_in_turn-returns c = grind (arith, common_steps)

@@ -1,7 +1,7 @@
 use Rattle.std.proofs.Common.{◌≡◌, ◌+◌, ◌-◌, ◌≤◌, drop}
 use Rattle.jp_automaton.specs.declared.cursor.Cursor.{Cursor}
 use Rattle.jp_automaton.specs.Expressions.{branches_before, unrolled_in, unrolled_in_turn}
-use Rattle.jp_pattern.specs.Unrolled.{Unrolled, counted, counted_on, letters, nothing}
+use Rattle.jp_pattern.specs.Unrolled.{Unrolled, counted, letters, nothing}
 use Rattle.jp_automaton.specs.inner.Simulation.{IsAt, IsWalk, or_entered, entered_as}
 use Rattle.jp_automaton.proofs.exit.+exit.Given as goal
 
@@ -32,14 +32,3 @@ invariant-exit_counted-loop-i l =
 
 abbrev pub decreases-exit_counted-loop-i : goal.decreases-exit_counted-loop-i
 decreases-exit_counted-loop-i l = l.most - l.i
-
-abbrev pub invariant-exit_counted_on-loop-i : goal.invariant-exit_counted_on-loop-i
-invariant-exit_counted_on-loop-i l =
-    let a = unrolled_in l.atom in
-    let rest = counted_on (l.least - l.i) a in
-    ((r : Cursor) → IsWalk l.active rest l.here r → IsWalk l.active (counted_on l.least a) l.fn.at r)
-    × (l.here.past + letters rest ≡ l.fn.at.past + letters (counted_on l.least a))
-    × IsAt l.active l.here.past l.here.index × (l.i ≤ l.least)
-
-abbrev pub decreases-exit_counted_on-loop-i : goal.decreases-exit_counted_on-loop-i
-decreases-exit_counted_on-loop-i l = l.least - l.i

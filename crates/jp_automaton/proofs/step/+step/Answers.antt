@@ -10,15 +10,15 @@ use Rattle.jp_automaton.specs.inner.Simulation.{entered_as}
 use Rattle.jp_automaton.proofs.KindLemmas.{exact, set_same, known_pieces, known_branches, known_repeat}
 use Rattle.jp_automaton.proofs.SizedLemmas.{all_sized-at}
 use Rattle.jp_automaton.proofs.WalkLemmas.{piece_next, branch_next, drop_none, nothing_walk, seq_walk}
-use Rattle.jp_automaton.proofs.WalkLemmas.{either_walk, or_walk, copy_walk, copy_on_walk, last_walk}
+use Rattle.jp_automaton.proofs.WalkLemmas.{either_walk, or_walk, copy_walk}
 use Rattle.jp_automaton.proofs.WalkLemmas.{plus_walk}
-use Rattle.jp_automaton.proofs.WalkLemmas.{copies_fit, copy_fits, copies_on_fit, copy_on_fits, last_fits}
-use Rattle.jp_automaton.proofs.WalkLemmas.{some_idle, not_entered, skip_copies, skip_copies_on, total_skipped}
-use Rattle.jp_automaton.proofs.WalkLemmas.{total_skipped_on}
-use Rattle.jp_automaton.proofs.CopyLemmas.{counted-letters, open-letters}
+use Rattle.jp_automaton.proofs.WalkLemmas.{copies_fit, copy_fits}
+use Rattle.jp_automaton.proofs.WalkLemmas.{some_idle, not_entered, skip_copies, total_skipped}
+use Rattle.jp_automaton.proofs.CopyLemmas.{counted-letters}
+use Rattle.jp_automaton.proofs.OnLemmas.{on_letters, on_walk, on_reads}
 use Rattle.jp_automaton.proofs.step.+step.Goals as goal
 use Rattle.jp_automaton.proofs.ReadsLemmas.{end_reads, passed_reads, seq_reads, either_reads, copy_reads}
-use Rattle.jp_automaton.proofs.ReadsLemmas.{copy_on_reads, skip_reads, skip_on_reads}
+use Rattle.jp_automaton.proofs.ReadsLemmas.{skip_reads}
 use Rattle.jp_automaton.proofs.StepLemmas.{exits_again}
 
 -- ---- an expression
@@ -398,118 +398,23 @@ step_counted-returns t c =
           (sym none) ∙ kept.4);
     }
 
-pub step_counted_on-idle_copies-idle-requires-clause-some
-    : goal.step_counted_on-idle_copies-idle-requires-clause-some
-step_counted_on-idle_copies-idle-requires-clause-some t c =
-    let kept = c.loop-i.invariant in
-    let a = unrolled_in c.args.atom.now in
-    let fits = copy_on_fits a c.args.least c.loop-i.i c.loop-i.here.past c.args.at.past c.loop-i-test.true
-    kept.1 c.requires.fits in
-    let e = exact c.size-size.result (pattern_in c.args.atom.now) c.size-size.ensures (omega (arith, fits)) in
-    omega (arith, e, c.requires.some)
-
-pub step_counted_on-idle_copies-idle-requires-clause-fits
-    : goal.step_counted_on-idle_copies-idle-requires-clause-fits
-step_counted_on-idle_copies-idle-requires-clause-fits t c =
-    let kept = c.loop-i.invariant in
-    let a = unrolled_in c.args.atom.now in
-    let fits = copy_on_fits a c.args.least c.loop-i.i c.loop-i.here.past c.args.at.past c.loop-i-test.true
-    kept.1 c.requires.fits in
-    let e = exact c.size-size.result (pattern_in c.args.atom.now) c.size-size.ensures (omega (arith, fits)) in
-    subst (λ s. c.loop-i.here.past + (c.args.least - c.loop-i.i) * s ≤ 10_000) (sym e)
-    (copies_on_fit a c.args.least c.loop-i.i c.loop-i.here.past c.args.at.past c.loop-i-test.true kept.1
-    c.requires.fits)
-
-pub step_counted_on-overflow_mul-here : goal.step_counted_on-overflow_mul-here
-step_counted_on-overflow_mul-here t c =
-    let kept = c.loop-i.invariant in
-    let a = unrolled_in c.args.atom.now in
-    let fits = copy_on_fits a c.args.least c.loop-i.i c.loop-i.here.past c.args.at.past c.loop-i-test.true
-    kept.1 c.requires.fits in
-    let e = exact c.size-size.result (pattern_in c.args.atom.now) c.size-size.ensures (omega (arith, fits)) in
-    let all = subst (λ s. c.loop-i.here.past + (c.args.least - c.loop-i.i) * s ≤ 10_000) (sym e)
-    (copies_on_fit a c.args.least c.loop-i.i c.loop-i.here.past c.args.at.past c.loop-i-test.true kept.1
-    c.requires.fits) in
-    let h = some_idle c.loop-i.here.past c.idle_copies-idle.result (c.args.least - c.loop-i.i)
-    c.size-size.result c.idle_copies-idle.ensures.few all in
-    omega (arith, h)
-
-pub step_counted_on-overflow_add-here : goal.step_counted_on-overflow_add-here
-step_counted_on-overflow_add-here t c =
-    let kept = c.loop-i.invariant in
-    let a = unrolled_in c.args.atom.now in
-    let fits = copy_on_fits a c.args.least c.loop-i.i c.loop-i.here.past c.args.at.past c.loop-i-test.true
-    kept.1 c.requires.fits in
-    let e = exact c.size-size.result (pattern_in c.args.atom.now) c.size-size.ensures (omega (arith, fits)) in
-    let all = subst (λ s. c.loop-i.here.past + (c.args.least - c.loop-i.i) * s ≤ 10_000) (sym e)
-    (copies_on_fit a c.args.least c.loop-i.i c.loop-i.here.past c.args.at.past c.loop-i-test.true kept.1
-    c.requires.fits) in
-    let h = some_idle c.loop-i.here.past c.idle_copies-idle.result (c.args.least - c.loop-i.i)
-    c.size-size.result c.idle_copies-idle.ensures.few all in
-    omega (arith, h)
-
-pub step_counted_on-loop-i-preserved-then-idle-gt0 : goal.step_counted_on-loop-i-preserved-then-idle-gt0
-step_counted_on-loop-i-preserved-then-idle-gt0 t c =
-    let active = c.args.input.active.now in
-    let kept = c.loop-i.invariant in
-    let a = unrolled_in c.args.atom.now in
-    let fits = copy_on_fits a c.args.least c.loop-i.i c.loop-i.here.past c.args.at.past c.loop-i-test.true
-    kept.1 c.requires.fits in
-    let e = exact c.size-size.result (pattern_in c.args.atom.now) c.size-size.ensures (omega (arith, fits)) in
-    let n = c.idle_copies-idle.result in
-    let none = not_entered c.loop-i.here.entered n c.idle_copies-idle.ensures.not_entered c.if-idle-gt0.true
-    in (
-      λ r w. kept.0 r (skip_copies_on active a c.loop-i.i n c.size-size.result c.args.least c.loop-i.here r e
-          none c.idle_copies-idle.ensures.inactive c.idle_copies-idle.ensures.few w),
-      total_skipped_on a c.args.least c.loop-i.i n c.size-size.result c.loop-i.here.past _ e
-          c.idle_copies-idle.ensures.few kept.1,
-      c.idle_copies-idle.ensures.stands,
-      omega (arith, c.idle_copies-idle.ensures.few, c.loop-i-test.true),
-      skip_on_reads active c.args.input.c _ a c.loop-i.i n c.size-size.result c.args.least c.loop-i.here
-          c.loop-i.out.items e none c.idle_copies-idle.ensures.inactive c.idle_copies-idle.ensures.few kept.4,
-    )
-
-pub step_counted_on-step-requires : goal.step_counted_on-step-requires
-step_counted_on-step-requires t c = (
+pub step_counted_on-step_counted-requires : goal.step_counted_on-step_counted-requires
+step_counted_on-step_counted-requires t c = (
   search (rules, the_lemmas),
-  let kept = c.loop-i.invariant in (
+  let e = on_letters c.args.least (unrolled_in c.args.atom.now) in (
     c.requires.sized,
-    (
-      copy_on_fits (unrolled_in c.args.atom.now) c.args.least c.loop-i.i
-          c.loop-i.here.past c.args.at.past c.loop-i-test.true kept.1 c.requires.fits,
-      kept.2,
-    ),
+    (c.requires.some, (omega (arith, e, c.requires.fits), c.requires.stands)),
   ),
 )
-
-pub step_counted_on-loop-i-preserved : goal.step_counted_on-loop-i-preserved
-step_counted_on-loop-i-preserved t c =
-    let active = c.args.input.active.now in
-    let kept = c.loop-i.invariant in
-    let a = unrolled_in c.args.atom.now in (
-      λ r w. kept.0 r (copy_on_walk active a c.args.least c.loop-i.i c.loop-i.here c.in_ok-here.here r
-          c.in_ok-here.ensures.walk c.loop-i-test.true w),
-      omega (
-        arith,
-        kept.1,
-        open-letters a c.args.least c.loop-i.i c.loop-i-test.true,
-        c.in_ok-here.ensures.walk.past,
-      ),
-      c.in_ok-here.ensures.walk.stands,
-      omega (arith, c.loop-i-test.true),
-      copy_on_reads active c.args.input.c _ a c.loop-i.here c.in_ok-here.here c.loop-i.out.items
-          c.step.new.out.items c.in_ok-here.ensures c.args.least c.loop-i.i c.loop-i-test.true kept.4,
-    )
 
 pub step_counted_on-step_plus-requires : goal.step_counted_on-step_plus-requires
 step_counted_on-step_plus-requires t c = (
   search (rules, the_lemmas),
-  let kept = c.loop-i.invariant in (
+  let e = on_letters c.args.least (unrolled_in c.args.atom.now) in (
     c.requires.sized,
     (
-      last_fits (unrolled_in c.args.atom.now) c.args.least c.loop-i.i c.loop-i.here.past
-          c.args.at.past (omega (arith, c.loop-i-test.false)) kept.1 c.requires.fits,
-      kept.2,
+      omega (arith, e, c.in_ok-here.ensures.walk.past, c.requires.fits),
+      c.in_ok-here.ensures.walk.stands,
     ),
   ),
 )
@@ -517,21 +422,19 @@ step_counted_on-step_plus-requires t c = (
 pub step_counted_on-returns : goal.step_counted_on-returns
 step_counted_on-returns t c =
     let active = c.args.input.active.now in
-    let kept = c.loop-i.invariant in
-    let here = c.loop-i.here in
-    let y = c.in_ok-behind.behind in
     let a = unrolled_in c.args.atom.now in
-    let none : c.args.least - c.loop-i.i ≡ 0 = omega (arith, c.loop-i-test.false) in
-    let w = subst (λ n. IsWalk active (counted_on n a) here (or_entered here.entered y)) (sym none)
-    (last_walk active a here y (plus_walk active a here y c.in_ok-behind.ensures.walk)) in
-    let is : c.with_entered.result ≡ or_entered here.entered y = c.with_entered.ensures
-    ∙ ap (λ b. entered_as b y) c.either.ensures in
+    let at = c.args.at in
+    let least = c.args.least in
+    let here = c.in_ok-here.here in
+    let behind = c.in_ok-behind.behind in
+    let is : c.with_entered.result ≡ or_entered here.entered behind = c.with_entered.ensures
+    ∙ ap (λ b. entered_as b behind) c.either.ensures in
     record {
-      walk = subst (λ r. IsWalk active (counted_on c.args.least a) c.args.at r) (sym is)
-          (kept.0 (or_entered here.entered y) w);
-      reads = c.in_ok-behind.ensures.reads
-          ∙ ap (λ n. c.loop-i.out.items ++ step (is_elem active) c.args.input.c (counted_on n a) here.past
-          here.entered) (sym none) ∙ kept.4;
+      walk = subst (λ r. IsWalk active (counted_on least a) at r) (sym is)
+          (on_walk active least a at here behind c.in_ok-here.ensures.walk
+          (plus_walk active a here behind c.in_ok-behind.ensures.walk));
+      reads = on_reads active c.args.input.c least a at here behind _ _ _ c.in_ok-here.ensures
+          c.in_ok-behind.ensures;
     }
 
 pub step_plus-step-requires : goal.step_plus-step-requires

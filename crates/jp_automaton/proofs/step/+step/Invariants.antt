@@ -1,7 +1,7 @@
 use Rattle.std.proofs.Common.{◌≡◌, ◌+◌, ◌-◌, ◌≤◌, ◌++◌, drop}
 use Rattle.jp_automaton.specs.declared.cursor.Cursor.{Cursor}
 use Rattle.jp_automaton.specs.Expressions.{branches_before, unrolled_in, unrolled_in_turn}
-use Rattle.jp_pattern.specs.Unrolled.{Unrolled, counted, counted_on, letters, nothing}
+use Rattle.jp_pattern.specs.Unrolled.{Unrolled, counted, letters, nothing}
 use Rattle.jp_automaton.specs.inner.Simulation.{step, is_elem, IsAt, IsWalk, or_entered, entered_as}
 use Rattle.jp_automaton.proofs.step.+step.Given as goal
 
@@ -44,17 +44,3 @@ invariant-step_counted-loop-i l =
 
 abbrev pub decreases-step_counted-loop-i : goal.decreases-step_counted-loop-i
 decreases-step_counted-loop-i l = l.copies.most - l.i
-
-abbrev pub invariant-step_counted_on-loop-i : goal.invariant-step_counted_on-loop-i
-invariant-step_counted_on-loop-i l =
-    let active = l.input.active.now in
-    let a = unrolled_in l.atom in
-    let rest = counted_on (l.least - l.i) a in
-    ((r : Cursor) → IsWalk active rest l.here r → IsWalk active (counted_on l.least a) l.fn.at r)
-    × (l.here.past + letters rest ≡ l.fn.at.past + letters (counted_on l.least a))
-    × IsAt active l.here.past l.here.index × (l.i ≤ l.least)
-    × (l.out.items ++ step (is_elem active) l.input.c rest l.here.past l.here.entered
-    ≡ l.fn.out.items ++ step (is_elem active) l.input.c (counted_on l.least a) l.fn.at.past l.fn.at.entered)
-
-abbrev pub decreases-step_counted_on-loop-i : goal.decreases-step_counted_on-loop-i
-decreases-step_counted_on-loop-i l = l.least - l.i
