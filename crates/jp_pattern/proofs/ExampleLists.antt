@@ -1,13 +1,10 @@
 -- Lists of texts that are patterns, or none, by reading each of them.
 use Rattle.std.proofs.Common.{◌≡◌, ℕ, List, [], ◌∷◌, map, Some, None}
 use Rattle.std.specs.List.{AllByRecursion}
-use Rattle.unicode.specs.declared.properties.GeneralCategory.{GeneralCategory}
-use Rattle.jp_pattern.specs.CategoryNames.{IsCategoryName}
 use Rattle.jp_pattern.specs.Pattern.{Text, Pattern}
 use Rattle.jp_pattern.specs.Samples.{IsNoPattern}
 use Rattle.jp_pattern.specs.Shape.{Shapes}
-use Rattle.jp_pattern.specs.inner.Reading.{read, categories_named}
-use Rattle.jp_pattern.proofs.NamesSound.{categories_sound}
+use Rattle.jp_pattern.specs.inner.Reading.{read}
 use Rattle.jp_pattern.proofs.PatternsRead.{unread}
 use Rattle.jp_pattern.proofs.PatternsSound.{read_sound}
 
@@ -17,13 +14,8 @@ pub all_read : (text : ℕ → Text) (tree : ℕ → Pattern) (cs : List ℕ)
 all_read text tree [] e = tt
 all_read text tree (c ∷ cs) e = (read_sound (text c) (tree c) (cc e), all_read text tree cs (cc e))
 
-pub none_read : {A : Type 0} (text : A → Text) (xs : List A) → map (λ x. read (text x)) xs ≡ map (λ x. None) xs
+pub none_read : {A : Type 0} (text : A → Text) (xs : List A)
+    → map (λ x. read (text x)) xs ≡ map (λ x. None) xs
     → AllByRecursion (λ x. IsNoPattern (text x)) xs
 none_read text [] e = tt
 none_read text (x ∷ xs) e = (unread (text x) (cc e), none_read text xs (cc e))
-
-pub all_named : (rows : List (Text × List GeneralCategory))
-    → map (λ row. categories_named row.0) rows ≡ map (λ row. Some row.1) rows
-    → AllByRecursion (λ row. IsCategoryName row.0 row.1) rows
-all_named [] e = tt
-all_named (row ∷ rows) e = (categories_sound row.0 row.1 (cc e), all_named rows (cc e))

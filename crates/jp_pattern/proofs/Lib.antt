@@ -11,6 +11,7 @@ pub mod PatternsRead
 pub mod PatternsSound
 pub mod ReadLemmas
 pub mod RightTests
+pub mod RowLemmas
 pub mod SetsRead
 pub mod SetsSound
 pub mod TextExamples

@@ -4,13 +4,14 @@ use Rattle.std.proofs.Common.{length, Some, refl, sym, ap, ◌∙◌, arith, app
 use Rattle.std.proofs.lemmas.Bool.{eqb-true}
 use Rattle.unicode.specs.declared.properties.GeneralCategory.{GeneralCategory}
 use Rattle.jp_pattern.specs.Pattern.{Text, Element, CharSet, Pattern}
-use Rattle.jp_pattern.specs.CategoryNames.{IsCategoryName}
+use Rattle.jp_pattern.specs.CategoryNames.{category_names, IsCategoryName}
 use Rattle.jp_pattern.specs.CharSetShape.{is_normal, is_class_normal, is_escaped, IsSingle, line_feed}
 use Rattle.jp_pattern.specs.CharSetShape.{carriage_return, tab, itself, IsCategory, inside, outside, IsInner}
 use Rattle.jp_pattern.specs.CharSetShape.{bare, escaped, IsElement, single, span, categorical, AreElements}
 use Rattle.jp_pattern.specs.CharSetShape.{none, last_hyphen, more, IsListing, first_hyphen, first_element}
 use Rattle.jp_pattern.specs.CharSetShape.{IsClass, listed, negated, IsCharSet, normal, escape, any, property}
 use Rattle.jp_pattern.specs.CharSetShape.{brackets}
+use Rattle.jp_pattern.proofs.NamesSound.{picked}
 use Rattle.jp_pattern.specs.inner.Reading.{single_at, name_at, category_at, inner_at, after_inner}
 use Rattle.jp_pattern.specs.inner.Reading.{escape_element_at}
 use Rattle.jp_pattern.specs.inner.Reading.{element_at, elements_at, listing_at, class_at, escape_set_at}
@@ -50,42 +51,8 @@ single_whole (itself c h) u = (
 
 name_whole : {s : Text} {cs : List GeneralCategory} → IsCategoryName s cs → (u : Text)
     → name_at (s ++ (125 ∷ u)) ≡ Some (cs, u)
-name_whole IsCategoryName.letter u = refl
-name_whole IsCategoryName.lowercase_letter u = refl
-name_whole IsCategoryName.modifier_letter u = refl
-name_whole IsCategoryName.other_letter u = refl
-name_whole IsCategoryName.titlecase_letter u = refl
-name_whole IsCategoryName.uppercase_letter u = refl
-name_whole IsCategoryName.mark u = refl
-name_whole IsCategoryName.spacing_mark u = refl
-name_whole IsCategoryName.enclosing_mark u = refl
-name_whole IsCategoryName.nonspacing_mark u = refl
-name_whole IsCategoryName.number u = refl
-name_whole IsCategoryName.decimal_number u = refl
-name_whole IsCategoryName.letter_number u = refl
-name_whole IsCategoryName.other_number u = refl
-name_whole IsCategoryName.punctuation u = refl
-name_whole IsCategoryName.connector_punctuation u = refl
-name_whole IsCategoryName.dash_punctuation u = refl
-name_whole IsCategoryName.close_punctuation u = refl
-name_whole IsCategoryName.final_punctuation u = refl
-name_whole IsCategoryName.initial_punctuation u = refl
-name_whole IsCategoryName.other_punctuation u = refl
-name_whole IsCategoryName.open_punctuation u = refl
-name_whole IsCategoryName.separator u = refl
-name_whole IsCategoryName.line_separator u = refl
-name_whole IsCategoryName.paragraph_separator u = refl
-name_whole IsCategoryName.space_separator u = refl
-name_whole IsCategoryName.symbol u = refl
-name_whole IsCategoryName.currency_symbol u = refl
-name_whole IsCategoryName.modifier_symbol u = refl
-name_whole IsCategoryName.math_symbol u = refl
-name_whole IsCategoryName.other_symbol u = refl
-name_whole IsCategoryName.other u = refl
-name_whole IsCategoryName.control u = refl
-name_whole IsCategoryName.format u = refl
-name_whole IsCategoryName.unassigned u = refl
-name_whole IsCategoryName.private_use u = refl
+name_whole {s} {cs} named u = picked (λ row. name_at (row.0 ++ (125 ∷ u))) (λ row. Some (row.1, u))
+    category_names (s, cs) refl named
 
 category_whole : {s : Text} {flag : Bool} {cs : List GeneralCategory} → IsCategory s flag cs → (u : Text) →
     (d : ℕ) × (t : Text) × (s ≡ 92 ∷ d ∷ t) × (category_at (t ++ u) ≡ Some (cs, u))

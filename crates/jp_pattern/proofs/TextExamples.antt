@@ -260,8 +260,8 @@ sixty_five_parentheses = beyond _ (in_groups 65 (branch (letter_a ∷ []))) (rea
 -- (a{1000}){11}
 pub eleven_thousand : IsNoPattern (codes "(a{1000}){11}")
 eleven_thousand = beyond _
-    (branch (repeat 11 (Some 11) (group (branch (repeat 1000 (Some 1000) letter_a ∷ []))) ∷ [])) (read_sound _ _ refl)
-    (λ h. omega arith)
+    (branch (repeat 11 (Some 11) (group (branch (repeat 1000 (Some 1000) letter_a ∷ []))) ∷ []))
+    (read_sound _ _ refl) (λ h. omega arith)
 
 -- a{1001}
 pub count_too_great : IsNoPattern (codes "a{1001}")

@@ -2,8 +2,6 @@
 use Rattle.std.specs.Prelude.{◌≡◌, ℕ, zero, suc, List, [], ◌∷◌, ◌++◌, codes}
 use Rattle.jp_pattern.specs.Pattern.{Text, CharSet, Pattern}
 use Rattle.std.specs.List.{AllByRecursion}
-use Rattle.unicode.specs.declared.properties.GeneralCategory.{GeneralCategory}
-use Rattle.unicode.specs.declared.properties.GeneralCategory.TheVariants as is
 use Rattle.jp_pattern.specs.Language.{Member}
 use Rattle.jp_pattern.specs.Profile.{IsPatternOf, size}
 use Rattle.jp_pattern.specs.Unrolled.{Unrolled}
@@ -62,50 +60,3 @@ some_ab = branch (Pattern.plus (Pattern.group (branch (letter_a ∷ letter_b ∷
 -- the pattern has the first texts, and none of the second
 abbrev pub HasOnly : Pattern → List Text → List Text → Type 0
 HasOnly p has others = AllByRecursion (λ t. Member p t) has × AllByRecursion (λ t. Member p t → ⊥) others
-
--- each name of general categories, and the categories that it means (RFC 9485, 3: IsCategory)
-abbrev pub category_rows : List (Text × List GeneralCategory)
-category_rows = (
-  codes "L",
-  is.LowercaseLetter ∷ is.ModifierLetter ∷ is.OtherLetter ∷ is.TitlecaseLetter ∷
-      is.UppercaseLetter ∷ [],
-)
-    ∷ (codes "Ll", is.LowercaseLetter ∷ [])
-    ∷ (codes "Lm", is.ModifierLetter ∷ [])
-    ∷ (codes "Lo", is.OtherLetter ∷ [])
-    ∷ (codes "Lt", is.TitlecaseLetter ∷ [])
-    ∷ (codes "Lu", is.UppercaseLetter ∷ [])
-    ∷ (codes "M", is.SpacingMark ∷ is.EnclosingMark ∷ is.NonspacingMark ∷ [])
-    ∷ (codes "Mc", is.SpacingMark ∷ [])
-    ∷ (codes "Me", is.EnclosingMark ∷ [])
-    ∷ (codes "Mn", is.NonspacingMark ∷ [])
-    ∷ (codes "N", is.DecimalNumber ∷ is.LetterNumber ∷ is.OtherNumber ∷ [])
-    ∷ (codes "Nd", is.DecimalNumber ∷ [])
-    ∷ (codes "Nl", is.LetterNumber ∷ [])
-    ∷ (codes "No", is.OtherNumber ∷ [])
-    ∷ (
-      codes "P",
-      is.ConnectorPunctuation ∷ is.DashPunctuation ∷ is.ClosePunctuation ∷
-          is.FinalPunctuation ∷ is.InitialPunctuation ∷ is.OtherPunctuation ∷ is.OpenPunctuation ∷ [],
-    )
-    ∷ (codes "Pc", is.ConnectorPunctuation ∷ [])
-    ∷ (codes "Pd", is.DashPunctuation ∷ [])
-    ∷ (codes "Pe", is.ClosePunctuation ∷ [])
-    ∷ (codes "Pf", is.FinalPunctuation ∷ [])
-    ∷ (codes "Pi", is.InitialPunctuation ∷ [])
-    ∷ (codes "Po", is.OtherPunctuation ∷ [])
-    ∷ (codes "Ps", is.OpenPunctuation ∷ [])
-    ∷ (codes "Z", is.LineSeparator ∷ is.ParagraphSeparator ∷ is.SpaceSeparator ∷ [])
-    ∷ (codes "Zl", is.LineSeparator ∷ [])
-    ∷ (codes "Zp", is.ParagraphSeparator ∷ [])
-    ∷ (codes "Zs", is.SpaceSeparator ∷ [])
-    ∷ (codes "S", is.CurrencySymbol ∷ is.ModifierSymbol ∷ is.MathSymbol ∷ is.OtherSymbol ∷ [])
-    ∷ (codes "Sc", is.CurrencySymbol ∷ [])
-    ∷ (codes "Sk", is.ModifierSymbol ∷ [])
-    ∷ (codes "Sm", is.MathSymbol ∷ [])
-    ∷ (codes "So", is.OtherSymbol ∷ [])
-    ∷ (codes "C", is.Control ∷ is.Format ∷ is.Unassigned ∷ is.PrivateUse ∷ [])
-    ∷ (codes "Cc", is.Control ∷ [])
-    ∷ (codes "Cf", is.Format ∷ [])
-    ∷ (codes "Cn", is.Unassigned ∷ [])
-    ∷ (codes "Co", is.PrivateUse ∷ []) ∷ []

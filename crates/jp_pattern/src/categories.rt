@@ -1,87 +1,56 @@
 //! The names of general categories.
 
 ghost use Rattle.std.specs.Prelude.{◌≡◌, option_map};
+ghost use Rattle.std.specs.Str.{bytes_eq};
 ghost use Rattle.jp_pattern.specs.inner.Reading as reading;
 
 use unicode::properties::GeneralCategory;
 
-/// The categories of a name (RFC 9485, 3: IsCategory).
-pub(crate) fn categories_named(name: &[char]) -> Option<&'static [GeneralCategory]>
-    ensures { option_map (λ x. x.now) result ≡ reading.categories_named name.now }
-{
-    match name {
-        ['L', second @ ..] => letters_named(second),
-        ['M', second @ ..] => marks_named(second),
-        ['N', second @ ..] => numbers_named(second),
-        ['P', second @ ..] => punctuation_named(second),
-        ['Z', second @ ..] => separators_named(second),
-        ['S', second @ ..] => symbols_named(second),
-        ['C', second @ ..] => others_named(second),
-        _ => None,
-    }
-}
+/// A name, and the categories that it means.
+type Named = (&'static [char], &'static [GeneralCategory]);
 
-/// Behind `L`: letters.
-fn letters_named(second: &[char]) -> Option<&'static [GeneralCategory]>
-    ensures { option_map (λ x. x.now) result ≡ reading.letters_named second.now }
-{
-    match second {
-        [] => Some(&[
+/// Each name (RFC 9485, 3: IsCategory).
+const NAMES: [Named; 36] = [
+    (
+        &['L'],
+        &[
             GeneralCategory::LowercaseLetter,
             GeneralCategory::ModifierLetter,
             GeneralCategory::OtherLetter,
             GeneralCategory::TitlecaseLetter,
             GeneralCategory::UppercaseLetter,
-        ]),
-        ['l'] => Some(&[GeneralCategory::LowercaseLetter]),
-        ['m'] => Some(&[GeneralCategory::ModifierLetter]),
-        ['o'] => Some(&[GeneralCategory::OtherLetter]),
-        ['t'] => Some(&[GeneralCategory::TitlecaseLetter]),
-        ['u'] => Some(&[GeneralCategory::UppercaseLetter]),
-        _ => None,
-    }
-}
-
-/// Behind `M`: marks.
-fn marks_named(second: &[char]) -> Option<&'static [GeneralCategory]>
-    ensures { option_map (λ x. x.now) result ≡ reading.marks_named second.now }
-{
-    match second {
-        [] => Some(&[
+        ],
+    ),
+    (&['L', 'l'], &[GeneralCategory::LowercaseLetter]),
+    (&['L', 'm'], &[GeneralCategory::ModifierLetter]),
+    (&['L', 'o'], &[GeneralCategory::OtherLetter]),
+    (&['L', 't'], &[GeneralCategory::TitlecaseLetter]),
+    (&['L', 'u'], &[GeneralCategory::UppercaseLetter]),
+    (
+        &['M'],
+        &[
             GeneralCategory::SpacingMark,
             GeneralCategory::EnclosingMark,
             GeneralCategory::NonspacingMark,
-        ]),
-        ['c'] => Some(&[GeneralCategory::SpacingMark]),
-        ['e'] => Some(&[GeneralCategory::EnclosingMark]),
-        ['n'] => Some(&[GeneralCategory::NonspacingMark]),
-        _ => None,
-    }
-}
-
-/// Behind `N`: numbers.
-fn numbers_named(second: &[char]) -> Option<&'static [GeneralCategory]>
-    ensures { option_map (λ x. x.now) result ≡ reading.numbers_named second.now }
-{
-    match second {
-        [] => Some(&[
+        ],
+    ),
+    (&['M', 'c'], &[GeneralCategory::SpacingMark]),
+    (&['M', 'e'], &[GeneralCategory::EnclosingMark]),
+    (&['M', 'n'], &[GeneralCategory::NonspacingMark]),
+    (
+        &['N'],
+        &[
             GeneralCategory::DecimalNumber,
             GeneralCategory::LetterNumber,
             GeneralCategory::OtherNumber,
-        ]),
-        ['d'] => Some(&[GeneralCategory::DecimalNumber]),
-        ['l'] => Some(&[GeneralCategory::LetterNumber]),
-        ['o'] => Some(&[GeneralCategory::OtherNumber]),
-        _ => None,
-    }
-}
-
-/// Behind `P`: punctuation.
-fn punctuation_named(second: &[char]) -> Option<&'static [GeneralCategory]>
-    ensures { option_map (λ x. x.now) result ≡ reading.punctuation_named second.now }
-{
-    match second {
-        [] => Some(&[
+        ],
+    ),
+    (&['N', 'd'], &[GeneralCategory::DecimalNumber]),
+    (&['N', 'l'], &[GeneralCategory::LetterNumber]),
+    (&['N', 'o'], &[GeneralCategory::OtherNumber]),
+    (
+        &['P'],
+        &[
             GeneralCategory::ConnectorPunctuation,
             GeneralCategory::DashPunctuation,
             GeneralCategory::ClosePunctuation,
@@ -89,69 +58,69 @@ fn punctuation_named(second: &[char]) -> Option<&'static [GeneralCategory]>
             GeneralCategory::InitialPunctuation,
             GeneralCategory::OtherPunctuation,
             GeneralCategory::OpenPunctuation,
-        ]),
-        ['c'] => Some(&[GeneralCategory::ConnectorPunctuation]),
-        ['d'] => Some(&[GeneralCategory::DashPunctuation]),
-        ['e'] => Some(&[GeneralCategory::ClosePunctuation]),
-        ['f'] => Some(&[GeneralCategory::FinalPunctuation]),
-        ['i'] => Some(&[GeneralCategory::InitialPunctuation]),
-        ['o'] => Some(&[GeneralCategory::OtherPunctuation]),
-        ['s'] => Some(&[GeneralCategory::OpenPunctuation]),
-        _ => None,
-    }
-}
-
-/// Behind `Z`: separators.
-fn separators_named(second: &[char]) -> Option<&'static [GeneralCategory]>
-    ensures { option_map (λ x. x.now) result ≡ reading.separators_named second.now }
-{
-    match second {
-        [] => Some(&[
+        ],
+    ),
+    (&['P', 'c'], &[GeneralCategory::ConnectorPunctuation]),
+    (&['P', 'd'], &[GeneralCategory::DashPunctuation]),
+    (&['P', 'e'], &[GeneralCategory::ClosePunctuation]),
+    (&['P', 'f'], &[GeneralCategory::FinalPunctuation]),
+    (&['P', 'i'], &[GeneralCategory::InitialPunctuation]),
+    (&['P', 'o'], &[GeneralCategory::OtherPunctuation]),
+    (&['P', 's'], &[GeneralCategory::OpenPunctuation]),
+    (
+        &['Z'],
+        &[
             GeneralCategory::LineSeparator,
             GeneralCategory::ParagraphSeparator,
             GeneralCategory::SpaceSeparator,
-        ]),
-        ['l'] => Some(&[GeneralCategory::LineSeparator]),
-        ['p'] => Some(&[GeneralCategory::ParagraphSeparator]),
-        ['s'] => Some(&[GeneralCategory::SpaceSeparator]),
-        _ => None,
-    }
-}
-
-/// Behind `S`: symbols.
-fn symbols_named(second: &[char]) -> Option<&'static [GeneralCategory]>
-    ensures { option_map (λ x. x.now) result ≡ reading.symbols_named second.now }
-{
-    match second {
-        [] => Some(&[
+        ],
+    ),
+    (&['Z', 'l'], &[GeneralCategory::LineSeparator]),
+    (&['Z', 'p'], &[GeneralCategory::ParagraphSeparator]),
+    (&['Z', 's'], &[GeneralCategory::SpaceSeparator]),
+    (
+        &['S'],
+        &[
             GeneralCategory::CurrencySymbol,
             GeneralCategory::ModifierSymbol,
             GeneralCategory::MathSymbol,
             GeneralCategory::OtherSymbol,
-        ]),
-        ['c'] => Some(&[GeneralCategory::CurrencySymbol]),
-        ['k'] => Some(&[GeneralCategory::ModifierSymbol]),
-        ['m'] => Some(&[GeneralCategory::MathSymbol]),
-        ['o'] => Some(&[GeneralCategory::OtherSymbol]),
-        _ => None,
-    }
-}
-
-/// Behind `C`: others.
-fn others_named(second: &[char]) -> Option<&'static [GeneralCategory]>
-    ensures { option_map (λ x. x.now) result ≡ reading.others_named second.now }
-{
-    match second {
-        [] => Some(&[
+        ],
+    ),
+    (&['S', 'c'], &[GeneralCategory::CurrencySymbol]),
+    (&['S', 'k'], &[GeneralCategory::ModifierSymbol]),
+    (&['S', 'm'], &[GeneralCategory::MathSymbol]),
+    (&['S', 'o'], &[GeneralCategory::OtherSymbol]),
+    (
+        &['C'],
+        &[
             GeneralCategory::Control,
             GeneralCategory::Format,
             GeneralCategory::Unassigned,
             GeneralCategory::PrivateUse,
-        ]),
-        ['c'] => Some(&[GeneralCategory::Control]),
-        ['f'] => Some(&[GeneralCategory::Format]),
-        ['n'] => Some(&[GeneralCategory::Unassigned]),
-        ['o'] => Some(&[GeneralCategory::PrivateUse]),
-        _ => None,
+        ],
+    ),
+    (&['C', 'c'], &[GeneralCategory::Control]),
+    (&['C', 'f'], &[GeneralCategory::Format]),
+    (&['C', 'n'], &[GeneralCategory::Unassigned]),
+    (&['C', 'o'], &[GeneralCategory::PrivateUse]),
+];
+
+/// Whether two names are the same.
+fn are_same(left: &[char], right: &[char]) -> bool
+    ensures { result ≡ bytes_eq left.now right.now }
+{
+    left == right
+}
+
+/// The categories of a name (RFC 9485, 3: IsCategory).
+pub(crate) fn categories_named(name: &[char]) -> Option<&'static [GeneralCategory]>
+    ensures { option_map (λ x. x.now) result ≡ reading.categories_named name.now }
+{
+    for (known, categories) in &NAMES {
+        if are_same(known, name) {
+            return Some(*categories);
+        }
     }
+    None
 }

@@ -14,7 +14,7 @@ ghost use Rattle.jp_pattern.specs.CategoryNames.{IsCategoryName};
 ghost use Rattle.jp_pattern.specs.CharSets.{in_set};
 ghost use Rattle.jp_pattern.specs.Language.{Found, HasPart, Matches};
 ghost use Rattle.jp_pattern.specs.Profile.{InProfile};
-ghost use Rattle.jp_pattern.specs.Samples.{category_rows, in_groups, HasOnly};
+ghost use Rattle.jp_pattern.specs.Samples.{in_groups, HasOnly};
 ghost use Rattle.jp_pattern.specs.Samples.{sign, letter_a, letter_b, branch, in_parentheses, HasSize};
 ghost use Rattle.jp_pattern.specs.Samples.{IsNoPattern};
 ghost use Rattle.jp_pattern.specs.Samples.{once_a, written_either};
@@ -299,7 +299,10 @@ fn parts()
 
 // The names of general categories.
 fn category_names()
-    ensures all { AllByRecursion (λ row. IsCategoryName row.0 row.1) category_rows }
+    ensures letters { IsCategoryName (codes "L") (LowercaseLetter ∷ ModifierLetter ∷ OtherLetter ∷
+        TitlecaseLetter ∷ UppercaseLetter ∷ []) }
+    ensures capitals { IsCategoryName (codes "Lu") (UppercaseLetter ∷ []) }
+    ensures digits { IsCategoryName (codes "Nd") (DecimalNumber ∷ []) }
     ensures none { AllByRecursion (λ t. IsNoPattern (codes "\\p{" ++ (t ++ codes "}"))) (codes "Cs" ∷
         codes "Lx" ∷ codes "l"
         ∷ codes "LU" ∷ codes "LuA" ∷ codes "IsBasicLatin" ∷ codes "" ∷ codes "Zz" ∷ codes "X" ∷ []) }

@@ -3,10 +3,11 @@
 -- code that reads follow it; no public contract names it.
 use Rattle.std.specs.Prelude.{ℕ, zero, suc, ◌+◌, ◌-◌, ◌*◌, true, false, not, ◌&&◌, Bool, ◌==◌, nat_le, List}
 use Rattle.std.specs.Prelude.{[], ◌∷◌, ◌++◌, length, Option, Some, None, option_map, option_and_then}
+use Rattle.std.specs.Str.{bytes_eq}
 use Rattle.std.specs.Prelude.{if◌then◌else◌}
 use Rattle.unicode.specs.declared.properties.GeneralCategory.{GeneralCategory}
-use Rattle.unicode.specs.declared.properties.GeneralCategory.TheVariants as is
 use Rattle.jp_pattern.specs.Pattern.{Text, Element, CharSet, Pattern}
+use Rattle.jp_pattern.specs.CategoryNames.{category_names}
 use Rattle.jp_pattern.specs.Profile.{max_count, max_depth}
 use Rattle.jp_pattern.specs.Quantity.{is_digit}
 use Rattle.jp_pattern.specs.Tree.{before_last, node_of}
@@ -30,98 +31,14 @@ abbrev pub single_at : Parse ℕ
 single_at [] = None
 single_at (c ∷ t) = option_map (λ v. (v, t)) (single_value c)
 
--- the categories whose names begin with `L`, by what follows it
-abbrev pub letters_named : Text → Option (List GeneralCategory)
-letters_named [] = Some (is.LowercaseLetter ∷ is.ModifierLetter ∷ is.OtherLetter ∷ is.TitlecaseLetter ∷
-    is.UppercaseLetter ∷ [])
-letters_named (c ∷ []) =
-    if c == 108 then Some (is.LowercaseLetter ∷ [])
-    else if c == 109 then Some (is.ModifierLetter ∷ [])
-    else if c == 111 then Some (is.OtherLetter ∷ [])
-    else if c == 116 then Some (is.TitlecaseLetter ∷ [])
-    else if c == 117 then Some (is.UppercaseLetter ∷ [])
-    else None
-letters_named (c ∷ d ∷ t) = None
-
--- the categories whose names begin with `M`, by what follows it
-abbrev pub marks_named : Text → Option (List GeneralCategory)
-marks_named [] = Some (is.SpacingMark ∷ is.EnclosingMark ∷ is.NonspacingMark ∷ [])
-marks_named (c ∷ []) =
-    if c == 99 then Some (is.SpacingMark ∷ [])
-    else if c == 101 then Some (is.EnclosingMark ∷ [])
-    else if c == 110 then Some (is.NonspacingMark ∷ [])
-    else None
-marks_named (c ∷ d ∷ t) = None
-
--- the categories whose names begin with `N`, by what follows it
-abbrev pub numbers_named : Text → Option (List GeneralCategory)
-numbers_named [] = Some (is.DecimalNumber ∷ is.LetterNumber ∷ is.OtherNumber ∷ [])
-numbers_named (c ∷ []) =
-    if c == 100 then Some (is.DecimalNumber ∷ [])
-    else if c == 108 then Some (is.LetterNumber ∷ [])
-    else if c == 111 then Some (is.OtherNumber ∷ [])
-    else None
-numbers_named (c ∷ d ∷ t) = None
-
--- the categories whose names begin with `P`, by what follows it
-abbrev pub punctuation_named : Text → Option (List GeneralCategory)
-punctuation_named [] = Some (is.ConnectorPunctuation ∷ is.DashPunctuation ∷ is.ClosePunctuation ∷
-    is.FinalPunctuation ∷ is.InitialPunctuation ∷ is.OtherPunctuation ∷ is.OpenPunctuation ∷ [])
-punctuation_named (c ∷ []) =
-    if c == 99 then Some (is.ConnectorPunctuation ∷ [])
-    else if c == 100 then Some (is.DashPunctuation ∷ [])
-    else if c == 101 then Some (is.ClosePunctuation ∷ [])
-    else if c == 102 then Some (is.FinalPunctuation ∷ [])
-    else if c == 105 then Some (is.InitialPunctuation ∷ [])
-    else if c == 111 then Some (is.OtherPunctuation ∷ [])
-    else if c == 115 then Some (is.OpenPunctuation ∷ [])
-    else None
-punctuation_named (c ∷ d ∷ t) = None
-
--- the categories whose names begin with `Z`, by what follows it
-abbrev pub separators_named : Text → Option (List GeneralCategory)
-separators_named [] = Some (is.LineSeparator ∷ is.ParagraphSeparator ∷ is.SpaceSeparator ∷ [])
-separators_named (c ∷ []) =
-    if c == 108 then Some (is.LineSeparator ∷ [])
-    else if c == 112 then Some (is.ParagraphSeparator ∷ [])
-    else if c == 115 then Some (is.SpaceSeparator ∷ [])
-    else None
-separators_named (c ∷ d ∷ t) = None
-
--- the categories whose names begin with `S`, by what follows it
-abbrev pub symbols_named : Text → Option (List GeneralCategory)
-symbols_named [] = Some (is.CurrencySymbol ∷ is.ModifierSymbol ∷ is.MathSymbol ∷ is.OtherSymbol ∷ [])
-symbols_named (c ∷ []) =
-    if c == 99 then Some (is.CurrencySymbol ∷ [])
-    else if c == 107 then Some (is.ModifierSymbol ∷ [])
-    else if c == 109 then Some (is.MathSymbol ∷ [])
-    else if c == 111 then Some (is.OtherSymbol ∷ [])
-    else None
-symbols_named (c ∷ d ∷ t) = None
-
--- the categories whose names begin with `C`, by what follows it
-abbrev pub others_named : Text → Option (List GeneralCategory)
-others_named [] = Some (is.Control ∷ is.Format ∷ is.Unassigned ∷ is.PrivateUse ∷ [])
-others_named (c ∷ []) =
-    if c == 99 then Some (is.Control ∷ [])
-    else if c == 102 then Some (is.Format ∷ [])
-    else if c == 110 then Some (is.Unassigned ∷ [])
-    else if c == 111 then Some (is.PrivateUse ∷ [])
-    else None
-others_named (c ∷ d ∷ t) = None
+-- what the first row of this name says
+abbrev pub row_named : Text → List (Text × List GeneralCategory) → Option (List GeneralCategory)
+row_named name [] = None
+row_named name (row ∷ rows) = if bytes_eq row.0 name then Some row.1 else row_named name rows
 
 -- the categories of a name
 abbrev pub categories_named : Text → Option (List GeneralCategory)
-categories_named [] = None
-categories_named (c ∷ t) =
-    if c == 76 then letters_named t
-    else if c == 77 then marks_named t
-    else if c == 78 then numbers_named t
-    else if c == 80 then punctuation_named t
-    else if c == 90 then separators_named t
-    else if c == 83 then symbols_named t
-    else if c == 67 then others_named t
-    else None
+categories_named name = row_named name category_names
 
 abbrev pub named : Text → Parse (List GeneralCategory)
 named name t = option_map (λ cs. (cs, t)) (categories_named name)
