@@ -7,7 +7,7 @@ use Rattle.std.proofs.lemmas.List.{append-nil}
 use Rattle.jp_tree.specs.Tree.{Text}
 use Rattle.jp_tree.specs.Tree as tree
 use Rattle.jp_tree.specs.Characters.{is_blank, is_digit, is_positive_digit, is_name_character}
-use Rattle.jp_tree.specs.Parts.{Each, Star, none, more, Behind, behind}
+use Rattle.jp_tree.specs.Parts.{run, Each, Star, none, more, Behind, behind}
 use Rattle.jp_tree.specs.Spelling as sp
 use Rattle.jp_tokens.proofs.Following.{never_at}
 
@@ -72,7 +72,7 @@ ends_before p s t h (inr k) = ends_in_append p s t k
 
 -- no name ends in a blank
 pub shorthand_ends : (t : Text) → sp.IsShorthand t → IsTrue (ends_in not_blank t)
-shorthand_ends t (sp.shorthand c u h k) =
+shorthand_ends t (run c u h k) =
     let first : IsTrue (is_name_character c) = rw h refl in
     ends_in_weaker is_name_character not_blank (never_blank is_name_character refl refl refl refl) (c ∷ u)
     (ends_in_each is_name_character c u first k)

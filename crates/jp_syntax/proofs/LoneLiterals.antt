@@ -9,12 +9,12 @@ use Rattle.jp_tree.specs.declared.tree.Operator.TheVariants as op
 use Rattle.jp_tree.specs.Tree.{Text}
 use Rattle.jp_tree.specs.Tree as tree
 use Rattle.jp_tree.specs.Characters.{is_blank, is_lower, is_function_character, is_quote}
-use Rattle.jp_tree.specs.Parts.{IsBlank, After, after, Separated, separated}
+use Rattle.jp_tree.specs.Parts.{run, IsBlank, After, after, Separated, separated}
 use Rattle.jp_tree.specs.Strings.{quoted}
 use Rattle.jp_tree.specs.Numbers.{zero_int, positive_int, negative_int, whole_int, minus_zero, IsNumber}
 use Rattle.jp_tree.specs.Numbers.{number}
 use Rattle.jp_tree.specs.Spelling as is
-use Rattle.jp_tree.specs.Spelling.{begins_with, operator_text, IsFunctionName, function_name, LiteralIs}
+use Rattle.jp_tree.specs.Spelling.{begins_with, operator_text, IsFunctionName, LiteralIs}
 use Rattle.jp_tree.specs.Spelling.{QueryIs, CallIs, ComparableIs, PlainIs, BasicIs, AndIs, OrIs, LogicalIs}
 use Rattle.jp_tokens.specs.Reading.{skip, past, run_at, int_at, whole_at, number_at, mark_at, operator_at}
 use Rattle.jp_tokens.specs.Reading.{literal_at, calls}
@@ -70,7 +70,7 @@ literal_calls_none s x u is.false_literal m = word_calls_none 102 (codes "alse")
 literal_calls_none s x u is.null_literal m = word_calls_none 110 (codes "ull") u refl refl m
 
 name_calls : (f u : Text) → IsFunctionName f → calls (f ++ (40 ∷ u)) ≡ true
-name_calls f u (function_name c t h k) = rw (h, past_each is_function_character t (40 ∷ u) k) refl
+name_calls f u (run c t h k) = rw (h, past_each is_function_character t (40 ∷ u) k) refl
 
 pub call_calls : (Inner : Text → tree.Logical → Type 0) (s : Text) (c : tree.Call) (u : Text)
     → CallIs Inner s c → calls (s ++ u) ≡ true

@@ -5,12 +5,12 @@ use Rattle.std.proofs.lemmas.Option.{same_Some}
 use Rattle.jp_tree.specs.Tree.{Text}
 use Rattle.jp_tree.specs.Tree as tree
 use Rattle.jp_tree.specs.Characters.{is_lower, is_positive_digit, is_quote}
-use Rattle.jp_tree.specs.Parts.{Separated, separated}
+use Rattle.jp_tree.specs.Parts.{run, Separated, separated}
 use Rattle.jp_tree.specs.Strings.{quoted}
 use Rattle.jp_tree.specs.Numbers.{zero_int, positive_int, negative_int, IsWhole, whole_int, minus_zero}
 use Rattle.jp_tree.specs.Numbers.{number}
 use Rattle.jp_tree.specs.Spelling as is
-use Rattle.jp_tree.specs.Spelling.{IsFunctionName, function_name, LiteralIs, QueryIs, CallIs, ComparableIs}
+use Rattle.jp_tree.specs.Spelling.{IsFunctionName, LiteralIs, QueryIs, CallIs, ComparableIs}
 use Rattle.jp_tree.specs.Spelling.{PlainIs, BasicIs, AndIs, OrIs, LogicalIs, begins_with}
 use Rattle.jp_syntax.specs.inner.Reading.{as_test, is_side}
 use Rattle.jp_tokens.proofs.Following.{firm, differs}
@@ -87,7 +87,7 @@ begins_front c [] t h = absurd cc
 begins_front c (d ∷ s) t h = refl
 
 name_leads : (f t : Text) → IsFunctionName f → leads_in is_operand_lead (f ++ t) ≡ true
-name_leads f t (function_name c u h k) = operand_wider c (lower_leads c h)
+name_leads f t (run c u h k) = operand_wider c (lower_leads c h)
 
 whole_leads : (s : Text) → IsWhole s → leads_in is_literal_lead s ≡ true
 whole_leads s (whole_int t zero_int) = refl

@@ -9,11 +9,11 @@ use Rattle.jp_tree.specs.Tree.{Text}
 use Rattle.jp_tree.specs.Tree as tree
 use Rattle.jp_tree.specs.Characters.{is_blank, is_digit, is_positive_digit, is_first, is_name_character}
 use Rattle.jp_tree.specs.Characters.{is_quote}
-use Rattle.jp_tree.specs.Parts.{IsBlank, Star, Behind, behind, After, after, Separated, separated}
+use Rattle.jp_tree.specs.Parts.{run, IsBlank, Star, Behind, behind, After, after, Separated, separated}
 use Rattle.jp_tree.specs.Strings.{quoted}
 use Rattle.jp_tree.specs.Numbers.{IsInt, zero_int, positive_int, negative_int}
 use Rattle.jp_tree.specs.Spelling as is
-use Rattle.jp_tree.specs.Spelling.{begins_with, operator_text, IsShorthand, shorthand, BoundIs, StepIs}
+use Rattle.jp_tree.specs.Spelling.{begins_with, operator_text, IsShorthand, BoundIs, StepIs}
 use Rattle.jp_tree.specs.Spelling.{SelectorIs, BracketedIs, SegmentIs, QueryIs}
 use Rattle.jp_tokens.specs.Reading.{Reader, Outcome, Turn, skip, all_of, int_at, string_at, mark_at}
 use Rattle.jp_tokens.specs.Reading.{begins_int, bound_at, step_at, slice_at, index_or_slice, numbers_at}
@@ -414,8 +414,8 @@ module _ (inner : Reader tree.Logical) (Inner : Text → tree.Logical → Type 0
   named_whole : (make : List tree.Selector → tree.Segment) (t u : Text) → IsShorthand t
       → Leaves is_name_character u → named_at make (t ++ u) ≡ Some (make (tree.name t ∷ []), u)
   unfolding named_at
-  named_whole make w u (shorthand c t f h) stop =
-      rw (differs is_first 42 refl c f, name_whole (c ∷ t) u (shorthand c t f h) stop) refl
+  named_whole make w u (run c t f h) stop =
+      rw (differs is_first 42 refl c f, name_whole (c ∷ t) u (run c t f h) stop) refl
 
   named_wildcard : (make : List tree.Selector → tree.Segment) (u : Text)
       → named_at make (42 ∷ u) ≡ Some (make (tree.wildcard ∷ []), u)
@@ -435,8 +435,8 @@ module _ (inner : Reader tree.Logical) (Inner : Text → tree.Logical → Type 0
   child_whole : (t u : Text) → IsShorthand t → Leaves is_name_character u → dotted_at inner (t ++ u)
       ≡ Some (tree.child (tree.name t ∷ []), u)
   unfolding dotted_at
-  child_whole w u (shorthand c t f h) stop =
-      rw (differs is_first 46 refl c f) (named_whole tree.child (c ∷ t) u (shorthand c t f h) stop)
+  child_whole w u (run c t f h) stop =
+      rw (differs is_first 46 refl c f) (named_whole tree.child (c ∷ t) u (run c t f h) stop)
 
   child_star : (u : Text) → dotted_at inner (42 ∷ u) ≡ Some (tree.child (tree.wildcard ∷ []), u)
   unfolding dotted_at
@@ -449,8 +449,8 @@ module _ (inner : Reader tree.Logical) (Inner : Text → tree.Logical → Type 0
   descendant_whole : (t u : Text) → IsShorthand t → Leaves is_name_character u → descendant_at inner (t ++ u)
       ≡ Some (tree.descendant (tree.name t ∷ []), u)
   unfolding descendant_at
-  descendant_whole w u (shorthand c t f h) stop =
-      rw (differs is_first 91 refl c f) (named_whole tree.descendant (c ∷ t) u (shorthand c t f h) stop)
+  descendant_whole w u (run c t f h) stop =
+      rw (differs is_first 91 refl c f) (named_whole tree.descendant (c ∷ t) u (run c t f h) stop)
 
   descendant_star : (u : Text) → descendant_at inner (42 ∷ u) ≡ Some (tree.descendant (tree.wildcard ∷ []), u)
   unfolding descendant_at

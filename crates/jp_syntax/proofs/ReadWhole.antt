@@ -9,10 +9,10 @@ use Rattle.jp_tree.specs.declared.tree.Operator.{Operator}
 use Rattle.jp_tree.specs.Tree.{Text}
 use Rattle.jp_tree.specs.Tree as tree
 use Rattle.jp_tree.specs.Characters.{is_blank, is_lower}
-use Rattle.jp_tree.specs.Parts.{IsBlank, After, after, Separated, separated}
+use Rattle.jp_tree.specs.Parts.{run, IsBlank, After, after, Separated, separated}
 use Rattle.jp_tree.specs.Spelling as is
 use Rattle.jp_tree.specs.Spelling.{begins_with, is_composite, operator_text, joined, IsFunctionName}
-use Rattle.jp_tree.specs.Spelling.{function_name, LiteralIs, QueryIs, CallIs, ArgumentIs, ComparableIs}
+use Rattle.jp_tree.specs.Spelling.{LiteralIs, QueryIs, CallIs, ArgumentIs, ComparableIs}
 use Rattle.jp_tree.specs.Spelling.{PlainIs, BasicIs, AndIs, OrIs, LogicalIs, Spells}
 use Rattle.jp_tokens.specs.Reading.{Reader, Outcome, Turn, ◌>>=◌, skip, all_of, function_name_at, literal_at}
 use Rattle.jp_tokens.specs.Reading.{mark_at, operator_at, calls}
@@ -140,7 +140,7 @@ module _ (inner : Reader tree.Logical) (Inner : Text → tree.Logical → Type 0
   call_is f t w u xs e h k = rw (e, h, k) refl
 
   some_name : (f : Text) → IsFunctionName f → 0 < length f
-  some_name f (function_name c t h k) = omega arith
+  some_name f (run c t h k) = omega arith
 
   call_whole : (s : Text) (c : tree.Call) (u : Text) → CallIs Inner s c → length s ≤ suc limit
       → call_at inner (s ++ u) ≡ Some (c, u)
@@ -179,9 +179,9 @@ module _ (inner : Reader tree.Logical) (Inner : Text → tree.Logical → Type 0
   operand_call : (s u : Text) (x : tree.Call) → CallIs Inner s x → calls (s ++ u) ≡ true
       → call_at inner (s ++ u) ≡ Some (x, u) → operand_at inner (s ++ u) ≡ Some (tree.value_call x, u)
   unfolding operand_at
-  operand_call s u x (is.call_of_none w b (function_name c t h k) hb) a e =
+  operand_call s u x (is.call_of_none w b (run c t h k) hb) a e =
       rw (differs is_lower 36 refl c h, differs is_lower 64 refl c h, a, e) refl
-  operand_call s u x (is.call w r v b xs (function_name c t h k) hr p hb) a e =
+  operand_call s u x (is.call w r v b xs (run c t h k) hr p hb) a e =
       rw (differs is_lower 36 refl c h, differs is_lower 64 refl c h, a, e) refl
 
   operand_query : (s u : Text) (q : tree.Query) → QueryIs Inner s q → query_at inner (s ++ u) ≡ Some (q, u)

@@ -6,7 +6,7 @@ use Rattle.std.proofs.lemmas.List.{append-nil}
 use Rattle.jp_tree.specs.Tree.{Text}
 use Rattle.jp_tree.specs.Tree as tree
 use Rattle.jp_tree.specs.Characters.{is_lower}
-use Rattle.jp_tree.specs.Parts.{none, more, Separated, separated}
+use Rattle.jp_tree.specs.Parts.{run, none, more, Separated, separated}
 use Rattle.jp_tree.specs.Spelling as sp
 use Rattle.jp_tree.specs.Spelling.{LogicalIs, begins_with}
 use Rattle.jp_tokens.proofs.Following.{never_at}
@@ -78,7 +78,7 @@ module _ (Inner : Text → tree.Logical → Type 0) where
   query_start t q (sp.query s u start ss sp.current p) = refl
 
   name_start : (f t : Text) → sp.IsFunctionName f → IsTrue (not (begins_with 40 (f ++ t)))
-  name_start f t (sp.function_name c u h k) =
+  name_start f t (run c u h k) =
       not_from_false (c == 40) (false_from_ne_true (c == 40) (never_at is_lower 40 refl c h))
 
   call_start : (t : Text) (c : tree.Call) → sp.CallIs Inner t c → IsTrue (not (begins_with 40 t))

@@ -13,12 +13,12 @@ use Rattle.jp_tree.specs.Characters.{is_blank, is_digit, is_positive_digit, is_l
 use Rattle.jp_tree.specs.Characters.{is_first, is_name_character, is_quote, is_bare, escaped, is_hex_digit}
 use Rattle.jp_tree.specs.Characters.{hex_number, is_surrogate, is_high_surrogate, is_low_surrogate}
 use Rattle.jp_tree.specs.Characters.{pair_value}
-use Rattle.jp_tree.specs.Parts.{Each, IsOptional, absent, present, Star}
+use Rattle.jp_tree.specs.Parts.{IsRun, run, Each, IsOptional, absent, present, Star}
 use Rattle.jp_tree.specs.Strings.{Piece, bare, escape, unicode, surrogates, HexIs, four, IsString, quoted}
-use Rattle.jp_tree.specs.Numbers.{IsInt, zero_int, positive_int, negative_int, IsDigits, digits, IsWhole}
+use Rattle.jp_tree.specs.Numbers.{IsInt, zero_int, positive_int, negative_int, IsDigits, IsWhole}
 use Rattle.jp_tree.specs.Numbers.{whole_int, minus_zero, IsFraction, fraction, IsSign, no_sign, plus_sign}
 use Rattle.jp_tree.specs.Numbers.{minus_sign, IsExponent, exponent, is_exponent_mark, IsNumber, number}
-use Rattle.jp_tree.specs.Spelling.{IsShorthand, shorthand, IsFunctionName, function_name, LiteralIs}
+use Rattle.jp_tree.specs.Spelling.{IsShorthand, IsFunctionName, LiteralIs}
 use Rattle.jp_tree.specs.Spelling.{number_literal, text_literal, true_literal, false_literal, null_literal}
 use Rattle.jp_tokens.specs.Reading.{Outcome, ◌>>=◌, taken, past, run_at, mark_at, name_at, function_name_at}
 use Rattle.jp_tokens.specs.Reading.{digits_at, positive_at, int_at, minus_at, whole_at, fraction_at, is_sign}
@@ -39,9 +39,6 @@ pub carried : {A : Type 0} (Part : Text → A → Type 0) (t : Text) (y p : A ×
 carried {A} Part t y p e f = subst (λ (p : A × Text). Front Part t p.0 p.1) (same_Some y p e) f
 
 -- ---- runs
-
-pub data IsRun (first later : ℕ → Bool) : Text → Type 0 where
-  run : (c : ℕ) (t : Text) → IsTrue (first c) → Each later t → IsRun first later (c ∷ t)
 
 pub run_sound : (first later : ℕ → Bool) (t x rest : Text) → run_at first later t ≡ Some (x, rest)
     → Front (Itself (IsRun first later)) t x rest
@@ -66,48 +63,27 @@ pub weaker : (P R : Text → Type 0) (t x rest : Text) → ((s : Text) → P s �
     → Front (Itself R) t x rest
 weaker P R t x rest h f = record { front = f.front; part = (h f.front f.part.0, f.part.1); whole = f.whole }
 
-shorthand_of : (s : Text) → IsRun is_first is_name_character s → IsShorthand s
-shorthand_of s (run c t f h) = shorthand c t f h
-
-run_of_shorthand : (s : Text) → IsShorthand s → IsRun is_first is_name_character s
-run_of_shorthand s (shorthand c t f h) = run c t f h
-
-function_of : (s : Text) → IsRun is_lower is_function_character s → IsFunctionName s
-function_of s (run c t f h) = function_name c t f h
-
-run_of_function : (s : Text) → IsFunctionName s → IsRun is_lower is_function_character s
-run_of_function s (function_name c t f h) = run c t f h
-
-digits_of : (s : Text) → IsRun is_digit is_digit s → IsDigits s
-digits_of s (run c t f h) = digits c t f h
-
-run_of_digits : (s : Text) → IsDigits s → IsRun is_digit is_digit s
-run_of_digits s (digits c t f h) = run c t f h
-
 pub name_sound : (t x rest : Text) → name_at t ≡ Some (x, rest) → Front (Itself IsShorthand) t x rest
-name_sound t x rest e = weaker (IsRun is_first is_name_character) IsShorthand t x rest shorthand_of
-    (run_sound is_first is_name_character t x rest e)
+name_sound = run_sound is_first is_name_character
 
 pub name_whole : (s u : Text) → IsShorthand s → starts (λ c. not (is_name_character c)) u ≡ true
     → name_at (s ++ u) ≡ Some (s, u)
-name_whole s u h stop = run_read is_first is_name_character s u (run_of_shorthand s h) stop
+name_whole = run_read is_first is_name_character
 
 pub function_sound : (t x rest : Text) → function_name_at t ≡ Some (x, rest)
     → Front (Itself IsFunctionName) t x rest
-function_sound t x rest e = weaker (IsRun is_lower is_function_character) IsFunctionName t x rest function_of
-    (run_sound is_lower is_function_character t x rest e)
+function_sound = run_sound is_lower is_function_character
 
 pub function_whole : (s u : Text) → IsFunctionName s → starts (λ c. not (is_function_character c)) u ≡ true
     → function_name_at (s ++ u) ≡ Some (s, u)
-function_whole s u h stop = run_read is_lower is_function_character s u (run_of_function s h) stop
+function_whole = run_read is_lower is_function_character
 
 digits_sound : (t x rest : Text) → digits_at t ≡ Some (x, rest) → Front (Itself IsDigits) t x rest
-digits_sound t x rest e = weaker (IsRun is_digit is_digit) IsDigits t x rest digits_of
-    (run_sound is_digit is_digit t x rest e)
+digits_sound = run_sound is_digit is_digit
 
 digits_whole : (s u : Text) → IsDigits s → starts (λ c. not (is_digit c)) u ≡ true
     → digits_at (s ++ u) ≡ Some (s, u)
-digits_whole s u h stop = run_read is_digit is_digit s u (run_of_digits s h) stop
+digits_whole = run_read is_digit is_digit
 
 -- ---- integers
 
@@ -291,7 +267,7 @@ digit_no_sign : (c : ℕ) → is_digit c ≡ true → is_sign c ≡ false
 digit_no_sign c h = rw (differs is_digit 43 refl c h, differs is_digit 45 refl c h) refl
 
 sign_read : (s t u : Text) → IsSign s → IsDigits t → sign_at (s ++ (t ++ u)) ≡ (s, t ++ u)
-sign_read s w u no_sign (digits c t d h) = rw (digit_no_sign c d) refl
+sign_read s w u no_sign (run c t d h) = rw (digit_no_sign c d) refl
 sign_read s t u plus_sign h = refl
 sign_read s t u minus_sign h = refl
 
@@ -665,13 +641,13 @@ literal_whole s x u (text_literal t v (quoted quote w value q ps)) m =
     ap (λ (k : Text). literal_at (quote ∷ k)) (append_assoc w (quote ∷ []) u)
     ∙ string_literal_read quote w value u q (string_whole quote w value u q ps)
 literal_whole s x u true_literal m = word_literal_read (codes "true") x u
-    (function_whole (codes "true") u (function_name 116 (codes "rue") refl (refl, (refl, (refl, tt))))
+    (function_whole (codes "true") u (run 116 (codes "rue") refl (refl, (refl, (refl, tt))))
     (side_before_word u m)) refl
 literal_whole s x u false_literal m = word_literal_read (codes "false") x u
     (function_whole (codes "false") u
-    (function_name 102 (codes "alse") refl (refl, (refl, (refl, (refl, tt))))) (side_before_word u m)) refl
+    (run 102 (codes "alse") refl (refl, (refl, (refl, (refl, tt))))) (side_before_word u m)) refl
 literal_whole s x u null_literal m = word_literal_read (codes "null") x u
-    (function_whole (codes "null") u (function_name 110 (codes "ull") refl (refl, (refl, (refl, tt))))
+    (function_whole (codes "null") u (run 110 (codes "ull") refl (refl, (refl, (refl, tt))))
     (side_before_word u m)) refl
 
 positive_firm : (c : ℕ) → is_positive_digit c ≡ true → is_blank c ≡ false

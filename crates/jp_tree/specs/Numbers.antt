@@ -2,7 +2,7 @@
 use Rattle.std.specs.Prelude.{ℕ, Bool, ◌||◌, ◌==◌, IsTrue, [], ◌∷◌, ◌++◌}
 use Rattle.jp_tree.specs.Tree.{Text}
 use Rattle.jp_tree.specs.Characters.{is_digit, is_positive_digit}
-use Rattle.jp_tree.specs.Parts.{Each, IsOptional}
+use Rattle.jp_tree.specs.Parts.{Each, IsOptional, IsRun}
 
 -- the integer of an index or a slice: no leading zeros, no `-0` (RFC 9535, 2.3.3.1)
 pub data IsInt : Text → Type 0 where
@@ -11,8 +11,8 @@ pub data IsInt : Text → Type 0 where
   negative_int : (c : ℕ) (t : Text) → IsTrue (is_positive_digit c) → Each is_digit t → IsInt (45 ∷ c ∷ t)
 
 -- one digit or more (RFC 9535, 2.3.5.1)
-pub data IsDigits : Text → Type 0 where
-  digits : (c : ℕ) (t : Text) → IsTrue (is_digit c) → Each is_digit t → IsDigits (c ∷ t)
+abbrev pub IsDigits : Text → Type 0
+IsDigits = IsRun is_digit is_digit
 
 -- what a number literal begins with: an integer, or `-0` (RFC 9535, 2.3.5.1)
 pub data IsWhole : Text → Type 0 where

@@ -8,6 +8,10 @@ use Rattle.jp_tree.specs.Characters.{is_blank}
 abbrev pub Each : (ℕ → Bool) → Text → Type 0
 Each p t = AllByRecursion (λ c. IsTrue (p c)) t
 
+-- a character of the first class, and then any number of the other
+pub data IsRun (first later : ℕ → Bool) : Text → Type 0 where
+  run : (c : ℕ) (t : Text) → IsTrue (first c) → Each later t → IsRun first later (c ∷ t)
+
 -- any number of blanks, none of them among these (RFC 9535, 2.1.1)
 abbrev pub IsBlank : Text → Type 0
 IsBlank t = Each is_blank t

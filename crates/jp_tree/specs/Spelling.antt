@@ -8,19 +8,18 @@ use Rattle.jp_tree.specs.declared.tree.Operator.TheVariants as op
 use Rattle.jp_tree.specs.Tree.{Text}
 use Rattle.jp_tree.specs.Tree as tree
 use Rattle.jp_tree.specs.Characters.{is_first, is_name_character, is_lower, is_function_character}
-use Rattle.jp_tree.specs.Parts.{Each, IsBlank, Star, Behind, After, Separated}
+use Rattle.jp_tree.specs.Parts.{IsRun, IsBlank, Star, Behind, After, Separated}
 use Rattle.jp_tree.specs.Strings.{IsString}
 use Rattle.jp_tree.specs.Numbers.{IsInt, IsNumber}
 use Rattle.jp_tree.specs.Singular.{is_singular}
 
 -- a name in shorthand, behind `.` or `..` (RFC 9535, 2.5.1.1)
-pub data IsShorthand : Text → Type 0 where
-  shorthand : (c : ℕ) (t : Text) → IsTrue (is_first c) → Each is_name_character t → IsShorthand (c ∷ t)
+abbrev pub IsShorthand : Text → Type 0
+IsShorthand = IsRun is_first is_name_character
 
 -- a function's name (RFC 9535, 2.4)
-pub data IsFunctionName : Text → Type 0 where
-  function_name : (c : ℕ) (t : Text) → IsTrue (is_lower c) → Each is_function_character t
-      → IsFunctionName (c ∷ t)
+abbrev pub IsFunctionName : Text → Type 0
+IsFunctionName = IsRun is_lower is_function_character
 
 -- what a query begins with: `$` for the root, `@` for the current node (RFC 9535, 2.3.5.1)
 pub data StartIs : Text → Start → Type 0 where

@@ -2,7 +2,8 @@ use Rattle.std.proofs.Common.{sym, ◌∙◌}
 use Rattle.std.specs.Str.{chars}
 use Rattle.jp_tree.specs.Characters.{is_lower, is_function_character}
 use Rattle.jp_tokens.specs.Reading.{run_at}
-use Rattle.jp_tokens.proofs.LeavesRead.{IsRun, run_sound}
+use Rattle.jp_tree.specs.Parts.{IsRun}
+use Rattle.jp_tokens.proofs.LeavesRead.{run_sound}
 use Rattle.jp_tokens.proofs.Cuts.{run_behind, some_front, front_read}
 use Rattle.jp_tokens.proofs.text.function_name_at.Goals as goal
 
