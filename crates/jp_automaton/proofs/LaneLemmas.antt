@@ -5,7 +5,7 @@ use Rattle.std.proofs.Common.{bit_and, inl, inr, refl, sym, ap, ap₂, ◌∙◌
 use Rattle.std.proofs.lemmas.Bool.{cases_lt}
 use Rattle.std.proofs.lemmas.List.{get_or-map, length-map, ext_get_or, get_or_past}
 use Rattle.std.proofs.lemmas.Nat.{and_mask}
-use Rattle.std.proofs.lemmas.Nat.Bits.{bit_at-trailing_zeros}
+use Rattle.std.proofs.lemmas.Nat.Bits.{bit_at-zero, bit_at-trailing_zeros}
 use Rattle.std.proofs.lemmas.Simd.{Each1-from_get_or, Each1-get_or, swz_l, SwzOk, SwzOk-from_below}
 use Rattle.std.proofs.lemmas.Simd.{length-swz_l, get_or-swz_l_below, zip2_splat, tops_compared}
 use Rattle.std.proofs.lemmas.Simd.{bitmask_splat, bit_mask_l, get_or-zip2, length-zip2, get_or-chunk}
@@ -148,6 +148,21 @@ module _ (xs ys zs : List ℕ) (first : length xs ≡ 16) (second : length ys �
         | inl both ↦ elim (least_zero x y both) [ inl of_x ↦ inl of_x | inr of_y ↦ inr (inl of_y) ]
         | inr of_z ↦ inr (inr of_z)
       ]
+
+-- where no bit is set, each lane is 0
+pub no_lane : (v : List ℕ) → length v ≡ 16 → bits_of_lanes v ≡ 0 → (k : ℕ) → k < 16 → get_or v k 0 ≡ 0
+no_lane v len none k lt =
+    let bits : bit_at (bits_of_lanes v) k ≡ cond (get_or (map is_some v) k false) 1 0 =
+    ap (λ m. bit_at m k) (bitmask_splat w8 (λ a b. not (eqb a b)) v 16 0 len (omega arith))
+    ∙ bit_mask_l (map is_some v) k in
+    let at : get_or (map is_some v) k false ≡ is_some (get_or v k 0) =
+    get_or-map is_some v k 0 false (omega (arith, len)) in
+    go (get_or v k 0) (eqb (get_or v k 0) 0) refl
+    (ap (λ b. cond b 1 0) (sym at) ∙ sym bits ∙ ap (λ m. bit_at m k) none ∙ bit_at-zero k)
+  where
+    go : (x : ℕ) (t : Bool) → eqb x 0 ≡ t → cond {A = ℕ} (not t) 1 0 ≡ 0 → x ≡ 0
+    go x true is e = eqb-true x 0 is
+    go x false is e = absurd (omega (arith, e))
 
 -- ---- the vector that begins at a place of a text, looked up
 

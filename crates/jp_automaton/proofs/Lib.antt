@@ -3,6 +3,7 @@ pub mod BytesLemmas
 pub mod CopyLemmas
 pub mod CursorLemmas
 pub mod DfaLemmas
+pub mod EndingLemmas
 pub mod EquivalenceLemmas
 pub mod FindLemmas
 pub mod KindLemmas

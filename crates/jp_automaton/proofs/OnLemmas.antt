@@ -50,8 +50,9 @@ on_walk active n a at here behind w v = record {
   stands = v.stands;
 }
 
-pub on_reads : (active : List ℕ) (c n : ℕ) (a : Unrolled) (at here behind : Cursor) (before between after : List ℕ)
-    → IsStep active c (counted n n a) at here before between → IsStep active c (plus a) here behind between after
+pub on_reads : (active : List ℕ) (c n : ℕ) (a : Unrolled) (at here behind : Cursor)
+    (before between after : List ℕ) → IsStep active c (counted n n a) at here before between
+    → IsStep active c (plus a) here behind between after
     → after ≡ before ++ step (is_elem active) c (counted_on n a) at.past at.entered
 on_reads active c n a at here behind before between after s t =
     t.reads

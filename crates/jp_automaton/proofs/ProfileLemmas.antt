@@ -1,14 +1,15 @@
 -- That a pattern is within the limits has one proof, so a value that keeps it quietly keeps it.
 use Rattle.std.proofs.Math.Logic.{∥∥₁_elim}
 use Rattle.std.proofs.Props.{props}
-use Rattle.std.proofs.Common.{ℕ, ◌≤◌, Some, None, Bool, List, length}
+use Rattle.std.proofs.Common.{ℕ, ◌≤◌, Option, Some, None, Bool, List, length}
 use Rattle.jp_pattern.specs.Unrolled.{Unrolled}
 use Rattle.jp_automaton.specs.inner.ByteSets.{AreInSets}
 use Rattle.jp_automaton.specs.inner.Equivalence.{AreByteClasses}
 use Rattle.jp_automaton.specs.declared.beginnings.Beginnings.{Beginnings}
 use Rattle.jp_automaton.specs.declared.byte_classes.ByteClasses.{ByteClasses}
 use Rattle.jp_automaton.specs.declared.byte_flags.ByteFlags.{ByteFlags}
-use Rattle.jp_automaton.specs.inner.Prefilter.{IsPrefilter}
+use Rattle.jp_automaton.specs.declared.byte_sets.ByteSet.{ByteSet}
+use Rattle.jp_automaton.specs.inner.Prefilter.{AreEndings, IsPrefilter}
 use Rattle.jp_automaton.specs.inner.Dfa.{IsDfa}
 use Rattle.jp_automaton.specs.inner.Simulation.{Rises-prop}
 use Rattle.jp_automaton.specs.declared.dfa.Dfa.{Dfa}
@@ -38,6 +39,10 @@ pub kept_dfa : (p : Unrolled) (unanchored : Bool) (dfa : Dfa) → ∥ IsDfa p un
     IsDfa p unanchored
     dfa
 kept_dfa p unanchored dfa h = ∥∥₁_elim h (hlevel (props, Rises-prop)) (λ of. of)
+
+pub kept_endings : (cells : List ℕ) (endings : Option ByteSet) → ∥ AreEndings cells endings ∥₁ →
+    AreEndings cells endings
+kept_endings cells endings h = ∥∥₁_elim h (hlevel props) (λ of. of)
 
 pub kept_prefilter : (cells : List ℕ) (flags : List ByteFlags) → ∥ IsPrefilter cells flags ∥₁ →
     IsPrefilter cells flags

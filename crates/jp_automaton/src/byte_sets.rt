@@ -1,7 +1,8 @@
 //! Sets of bytes that the bytes of a vector are looked up in.
 
-ghost use Rattle.std.specs.Prelude.{◌≡◌, ◌<◌, ℕ, length, map};
+ghost use Rattle.std.specs.Prelude.{◌≡◌, ◌+◌, ◌<◌, ◌≤◌, ℕ, false, length, map, slice_index_or};
 
+use crate::limits::LANES;
 use std::simd::prelude::*;
 
 /// A set of bytes, told by the halves of a byte: it is in the set where the entry of its low half and that of
@@ -16,6 +17,7 @@ pub struct ByteSet {
 
 impl ByteSet {
     ghost use Rattle.jp_automaton.specs.inner.ByteSets.{bits_of};
+    ghost use Rattle.jp_automaton.specs.inner.Prefilter.{HasNone};
 
     /// No bytes.
     pub(crate) fn new() -> ByteSet {
@@ -45,6 +47,55 @@ impl ByteSet {
         let low = u8x16::from_array(self.low).swizzle_dyn(bytes & u8x16::splat(15));
         let high = u8x16::from_array(self.high).swizzle_dyn(bytes >> u8x16::splat(4));
         low & high
+    }
+
+    /// Whether the byte was found to be in the set.
+    pub(crate) fn has(&self, byte: u8) -> bool
+        ensures { result ≡ false → bits_of self.now byte ≡ 0 }
+    {
+        self.low[usize::from(byte % 16)] & self.high[usize::from(byte / 16)] != 0
+    }
+
+    /// Whether some of the bytes was found to be in the set.
+    pub(crate) fn has_any(&self, bytes: &[u8]) -> bool
+        ensures { result ≡ false → HasNone self.now bytes.now }
+    {
+        if bytes.len() < LANES {
+            return self.has_any_slowly(bytes);
+        }
+        let last = bytes.len() - LANES;
+        let mut from = 0;
+        while from < last {
+            if self.has_any_from(bytes, from) {
+                return true;
+            }
+            from += LANES;
+        }
+        // The last vector may overlap the one before it.
+        self.has_any_from(bytes, last)
+    }
+
+    /// Whether one of the sixteen bytes from here on was found to be in the set.
+    #[inline(always)]
+    fn has_any_from(&self, bytes: &[u8], from: usize) -> bool
+        requires { from + LANES ≤ length bytes.now }
+        ensures { result ≡ false → (k : ℕ) → k < LANES
+            → bits_of self.now (slice_index_or bytes.now (from + k) 0) ≡ 0 }
+    {
+        let found = self.look_up(u8x16::from_slice(&bytes[from..]));
+        found.simd_ne(u8x16::splat(0)).to_bitmask() != 0
+    }
+
+    /// The same as `has_any`, byte by byte.
+    fn has_any_slowly(&self, bytes: &[u8]) -> bool
+        ensures { result ≡ false → HasNone self.now bytes.now }
+    {
+        for byte in bytes {
+            if self.has(*byte) {
+                return true;
+            }
+        }
+        false
     }
 }
 

@@ -3,7 +3,7 @@
 ghost use Rattle.std.specs.Prelude.{IsTrue, false, true};
 ghost use Rattle.jp_automaton.specs.Expressions.{meaning, pattern_in, unrolled_in};
 ghost use Rattle.jp_pattern.specs.Profile.{InProfile};
-ghost use Rattle.jp_automaton.specs.inner.Prefilter.{IsPrefilter};
+ghost use Rattle.jp_automaton.specs.inner.Prefilter.{AreEndings, IsPrefilter};
 ghost use Rattle.jp_automaton.specs.inner.Dfa.{IsDfa};
 
 mod by_dfa;
@@ -23,11 +23,12 @@ pub struct Pattern {
     pub(crate) whole: Dfa,
     /// The unanchored DFA by which a part is looked for.
     pub(crate) part: Dfa,
-    /// The prefilter of the unanchored DFA: where a match may begin.
+    /// The prefilter of the unanchored DFA: where a match may begin, and by which byte it may end.
     pub(crate) prefilter: Prefilter,
     ghost sized: { IsTrue (meaning root).is_sized },
     ghost in_profile: { ∥ InProfile (pattern_in root) ∥₁ },
     ghost whole_steps: { ∥ IsDfa (unrolled_in root) false whole ∥₁ },
     ghost part_steps: { ∥ IsDfa (unrolled_in root) true part ∥₁ },
     ghost right_prefilter: { ∥ IsPrefilter part.cells.items prefilter.flags.items ∥₁ },
+    ghost right_endings: { ∥ AreEndings part.cells.items prefilter.endings ∥₁ },
 }

@@ -1,14 +1,15 @@
-//! A prefilter of three bytes: where in a text a match may begin.
+//! A prefilter: by which three bytes a match may begin, and by which byte it may end.
 
 ghost use Rattle.std.specs.Prelude.{◌≡◌, ◌<◌, ◌≤◌, [], false, drop, IfOk, IfSome, OnOk, List, ℕ, length};
 ghost use Rattle.jp_automaton.specs.inner.ByteSets.{AreInSets};
 ghost use Rattle.jp_automaton.specs.inner.Prefilter.{AreFlagsOf, AreOnes, IsPrefilter, AreTwos, HasPair};
-ghost use Rattle.jp_automaton.specs.inner.Prefilter.{HaveBehind};
+ghost use Rattle.jp_automaton.specs.inner.Prefilter.{AreEndings, EndsNone, HaveBehind, IsEndings};
 ghost use Rattle.jp_automaton.specs.inner.Prefilter.{KeepsPairs, LeadsTogether};
 
 use crate::beginnings::Beginnings;
 use crate::byte_flags::ByteFlags;
-use crate::dfa::Dfa;
+use crate::byte_sets::ByteSet;
+use crate::dfa::{Dfa, MATCH_OR_DEAD};
 use crate::limits::{LANES, MAX_FLAGGED, MAX_PAIRS, STRIDE, WINDOW};
 use std::alloc::{AllocError, Global};
 
@@ -18,6 +19,8 @@ pub struct Prefilter {
     pub flags: Vec<ByteFlags>,
     /// The flagged bytes as sets, in which sixteen bytes are looked up together.
     pub beginnings: Beginnings,
+    /// The bytes by which a search ends, where few texts have one.
+    pub endings: Option<ByteSet>,
     ghost flagged: { ∥ AreInSets beginnings flags.items (length flags.items) ∥₁ },
 }
 
@@ -32,12 +35,25 @@ impl Prefilter {
     ghost use Rattle.jp_automaton.specs.inner.Dfa.{state_behind};
 
     /// No flags.
-    pub(crate) fn new(alloc: Global) -> Prefilter
-        ensures { result.flags.items ≡ [] }
+    pub(crate) fn new(alloc: Global, endings: Option<ByteSet>) -> Prefilter
+        ensures flags { result.flags.items ≡ [] }
+        ensures endings { result.endings ≡ endings }
     {
         Prefilter {
             flags: Vec::new(alloc),
             beginnings: Beginnings::new(),
+            endings,
+        }
+    }
+
+    /// Whether the bytes may have one by which a search ends: without one nothing is found.
+    pub(crate) fn may_end(&self, bytes: &[u8]) -> bool
+        ensures { (cells : List ℕ) → AreEndings cells self.now.endings → result ≡ false
+            → state_behind cells 0 bytes.now < MATCH_OR_DEAD }
+    {
+        match &self.endings {
+            Some(set) => set.has_any(bytes),
+            None => true,
         }
     }
 
@@ -103,14 +119,16 @@ impl Prefilter {
 ///
 /// Memory ran out.
 pub(crate) fn make_prefilter(alloc: Global, dfa: &Dfa) -> Result<Prefilter, AllocError>
-    ensures { IfOk result (λ prefilter. IsPrefilter dfa.now.cells.items prefilter.flags.items) }
+    ensures begins { IfOk result (λ prefilter. IsPrefilter dfa.now.cells.items prefilter.flags.items) }
+    ensures ends { IfOk result (λ prefilter. AreEndings dfa.now.cells.items prefilter.endings) }
 {
+    let endings = endings_of(dfa);
     if dfa.states.is_empty() {
-        return Ok(Prefilter::new(alloc));
+        return Ok(Prefilter::new(alloc, endings));
     }
     let ones = pairs_behind_one(alloc, dfa)?;
     let Some(twos) = pairs_behind_two(alloc, dfa, &ones)? else {
-        return Ok(Prefilter::new(alloc));
+        return Ok(Prefilter::new(alloc, endings));
     };
     let mut flags = Vec::new(alloc);
     for byte in 0..STRIDE {
@@ -118,10 +136,61 @@ pub(crate) fn make_prefilter(alloc: Global, dfa: &Dfa) -> Result<Prefilter, Allo
     }
     if tell_enough(&flags) {
         let beginnings = Beginnings::flagged(&flags);
-        Ok(Prefilter { flags, beginnings })
+        Ok(Prefilter {
+            flags,
+            beginnings,
+            endings,
+        })
     } else {
-        Ok(Prefilter::new(alloc))
+        Ok(Prefilter::new(alloc, endings))
     }
+}
+
+/// The bytes by which a search ends, where few texts have one.
+fn endings_of(dfa: &Dfa) -> Option<ByteSet>
+    ensures { AreEndings dfa.now.cells.items result }
+{
+    let set = ending_bytes(dfa);
+    if is_common(&set) { None } else { Some(set) }
+}
+
+/// The bytes by which a search ends from some state.
+fn ending_bytes(dfa: &Dfa) -> ByteSet
+    ensures { IsEndings dfa.now.cells.items result 256 }
+{
+    let mut set = ByteSet::new();
+    for byte in 0..STRIDE {
+        let flag = flag_if(ends_by(dfa, byte as u8));
+        set.add_if(flag, byte as u8);
+    }
+    set
+}
+
+/// Whether a search ends by the byte from some state.
+fn ends_by(dfa: &Dfa, byte: u8) -> bool
+    ensures { result ≡ false → EndsNone dfa.now.cells.items MATCH_OR_DEAD byte }
+{
+    // Behind the states that have cells each one stays where it is.
+    let count = (dfa.cells.len() / STRIDE).saturating_add(1);
+    for state in 0..MATCH_OR_DEAD {
+        if usize::from(state) >= count {
+            return false;
+        }
+        if dfa.after(state, byte) >= MATCH_OR_DEAD {
+            return true;
+        }
+    }
+    false
+}
+
+/// Whether most texts have a byte of the set: a small letter, or a blank.
+fn is_common(set: &ByteSet) -> bool {
+    for byte in b'a'..b'{' {
+        if set.has(byte) {
+            return true;
+        }
+    }
+    set.has(b' ')
 }
 
 /// The states behind each byte that does not lead back to the start, with the start.

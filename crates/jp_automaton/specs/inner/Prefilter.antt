@@ -1,8 +1,12 @@
 -- A working file, which nobody has to believe: which bytes may be passed from the start state. No public
 -- contract names it.
 use Rattle.std.specs.Prelude.{◌≡◌, ℕ, ◌<◌, ◌⊎◌, List, [], ◌∷◌, length, slice_index_or, Contains}
+use Rattle.std.specs.Prelude.{Option, Some}
 use Rattle.jp_automaton.specs.declared.byte_flags.ByteFlags.{ByteFlags}
 use Rattle.jp_automaton.specs.declared.prefilter.Pair.{Pair}
+use Rattle.jp_automaton.specs.declared.byte_sets.ByteSet.{ByteSet}
+use Rattle.jp_automaton.specs.declared.dfa.TheConstants.{MATCH_OR_DEAD}
+use Rattle.jp_automaton.specs.inner.ByteSets.{bits_of}
 use Rattle.jp_automaton.specs.inner.Dfa.{state_after, state_behind}
 
 -- The flags of the bytes. Where a byte has not the first flag, it leads from the start to the start; where it
@@ -50,3 +54,19 @@ pub record AreFlagsOf (cells : List ℕ) (ones twos : List Pair) (b : ℕ) (flag
   pub first : flags.first ≡ 0 → state_after cells 0 b ≡ 0
   pub second : flags.second ≡ 0 → LeadsTogether cells ones b
   pub third : flags.third ≡ 0 → LeadsTogether cells twos b
+
+-- the byte leads from none of the states below the count to an end of the search
+abbrev pub EndsNone : List ℕ → ℕ → ℕ → Type 0
+EndsNone cells count b = (s : ℕ) → s < count → state_after cells s b < MATCH_OR_DEAD
+
+-- a byte below the end that is not in the set leads from no state to an end of the search
+pub record IsEndings (cells : List ℕ) (set : ByteSet) (end : ℕ) : Type 0 where
+  pub each : (b : ℕ) → b < end → bits_of set b ≡ 0 → EndsNone cells MATCH_OR_DEAD b
+
+-- so it is of the set that is kept, if one is
+pub record AreEndings (cells : List ℕ) (endings : Option ByteSet) : Type 0 where
+  pub each : (set : ByteSet) → endings ≡ Some set → IsEndings cells set 256
+
+-- none of the bytes is in the set
+abbrev pub HasNone : ByteSet → List ℕ → Type 0
+HasNone set bytes = (k : ℕ) → k < length bytes → bits_of set (slice_index_or bytes k 0) ≡ 0

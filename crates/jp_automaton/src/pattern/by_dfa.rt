@@ -37,7 +37,11 @@ impl Pattern {
         if dfa.states[0].accepts {
             return Some(true);
         }
-        match self.part_state(text.as_bytes()) {
+        let bytes = text.as_bytes();
+        if !self.prefilter.may_end(bytes) {
+            return Some(false);
+        }
+        match self.part_state(bytes) {
             QUIT => None,
             MATCH_OR_DEAD => Some(true),
             _ => Some(false),

@@ -44,7 +44,7 @@ impl Pattern {
                 }
                 let whole = Dfa::new(alloc);
                 let part = Dfa::new(alloc);
-                let prefilter = Prefilter::new(alloc);
+                let prefilter = Prefilter::new(alloc, None);
                 Ok(Some(Pattern {
                     root,
                     whole,

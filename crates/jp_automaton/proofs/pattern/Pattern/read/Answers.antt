@@ -4,6 +4,7 @@ use Rattle.jp_pattern.specs.Profile.{size}
 use Rattle.jp_pattern.specs.Tree.{node_of}
 use Rattle.jp_automaton.specs.Expressions.{pattern_in}
 use Rattle.jp_automaton.proofs.PrefilterLemmas.{no_prefilter}
+use Rattle.jp_automaton.proofs.EndingLemmas.{no_endings}
 use Rattle.jp_automaton.proofs.DfaLemmas.{no_dfa}
 use Rattle.jp_automaton.proofs.SizeLemmas.{size_is, size_over}
 use Rattle.jp_pattern.proofs.ReadLemmas.{is_pattern, too_large}
@@ -53,5 +54,7 @@ invariant_of-result c =
       part_steps = ∣ no_dfa (pattern_in root) true c.new-part.result c.new-part.ensures.states
           c.new-part.ensures.cells ∣₁;
       right_prefilter = ∣ no_prefilter c.new-part.result.cells.items c.new-prefilter.result.flags.items
-          c.new-prefilter.ensures ∣₁;
+          c.new-prefilter.ensures.flags ∣₁;
+      right_endings = ∣ no_endings c.new-part.result.cells.items c.new-prefilter.result.endings
+          c.new-prefilter.ensures.endings ∣₁;
     }
