@@ -17,7 +17,7 @@ pub array_length : (xs : List Json) (n : ℕ) → n ≡ length xs
     → Some (number (whole (pos n))) ≡ length_value (Some (array (items xs)))
 array_length xs n is = ap (λ k. Some (number_value k)) (is ∙ sym (ap length (list_back xs)))
 
-and_false : (a b : Bool) → false ≡ b → false ≡ (a && b)
+pub and_false : (a b : Bool) → false ≡ b → false ≡ (a && b)
 and_false true b h = h
 and_false false b h = refl
 

@@ -7,4 +7,5 @@ pub mod FirstOnes
 pub mod SamePlaces
 pub mod Apart
 pub mod TreeObjects
+pub mod OrderedValues
 pub mod LiteralNumbers

@@ -200,7 +200,7 @@ eq_self : (a : Option Json) → eq a a ≡ true
 eq_self None = refl
 eq_self (Some v) = self_same v
 
-eq_turn : (a b : Option Json) → eq a b ≡ eq b a
+pub eq_turn : (a b : Option Json) → eq a b ≡ eq b a
 eq_turn None None = refl
 eq_turn None (Some w) = refl
 eq_turn (Some v) None = refl

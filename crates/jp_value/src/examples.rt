@@ -3,7 +3,7 @@
 ghost use Rattle.std.specs.Prelude.{◌≡◌, [], ◌∷◌, codes, pos, negsuc, replicate, Some, None, true};
 ghost use Rattle.std.specs.Prelude.{false};
 ghost use Rattle.jp_node.specs.declared.part.Kind.TheVariants.{Null, Truth, Whole};
-ghost use Rattle.jp_doc.specs.Json.{null, truth, number, text, object, no_members};
+ghost use Rattle.jp_doc.specs.Json.{null, truth, number, text, object, no_members, add_member};
 ghost use Rattle.jp_doc.specs.Location.{node};
 ghost use Rattle.jp_tree.specs.Tree as tree;
 ghost use Rattle.jp_tree.specs.declared.tree.Operator.TheVariants.{Eq, Ne, Le, Ge, Lt, Gt};
@@ -16,6 +16,7 @@ ghost use Rattle.jp_value.specs.Functions.{called, handed_value, handed_truth, h
 ghost use Rattle.jp_value.specs.Functions.{as_truth, as_nodes};
 ghost use Rattle.jp_value.specs.Kinds.{given_value};
 ghost use Rattle.jp_value.specs.Literals.{literal_value, written_value};
+ghost use Rattle.jp_value.specs.Ordered.{named};
 ghost use Rattle.jp_node.specs.Samples.{num, arr, obj, obj2, to, item, nested};
 
 /// What literals, and numbers of slices, stand for.
@@ -204,4 +205,12 @@ fn functions()
     ensures searching { (t : Tests) → called t search_function
         (handed_value (Some (text (codes "a"))) ∷ handed_value (Some (text (codes "."))) ∷ [])
         ≡ handed_truth (t.is_found (codes "a") (codes ".")) }
+{}
+
+/// Names and values side by side: what has none beside it counts for nothing.
+fn named_values()
+    ensures both { named ((codes "a", null) ∷ (codes "b", null) ∷ []) (num 1 ∷ num 2 ∷ [])
+        ≡ add_member (codes "a") (num 1) (add_member (codes "b") (num 2) no_members) }
+    ensures names_alone { named ((codes "a", null) ∷ []) [] ≡ no_members }
+    ensures values_alone { named [] (num 1 ∷ []) ≡ no_members }
 {}

@@ -16,7 +16,7 @@ use std::alloc::{AllocError, Global};
 /// Whether two values are deeply equal.
 #[tactic(auto, using(jp_number::proofs::Order::whole_equal))]
 #[cycle(same_kind)]
-fn same_kind(alloc: Global, left: Kind<'_>, right: Kind<'_>) -> Result<bool, AllocError>
+pub(crate) fn same_kind(alloc: Global, left: Kind<'_>, right: Kind<'_>) -> Result<bool, AllocError>
     ensures { IfOk result (λ b. b ≡ spec.same (kind_value left.entry) (kind_value right.entry)) }
 {
     match (left, right) {

@@ -7,6 +7,7 @@ mod examples;
 mod functions;
 mod kinds;
 pub mod laws;
+mod ordered;
 mod read_pattern;
 mod slice;
 
@@ -15,5 +16,6 @@ pub use functions::{
     exactly_one, length, literal, matches, matches_known, searches, searches_known,
 };
 pub use kinds::compare_kinds;
+pub use ordered::{Ordered, compare_ordered, order, turned};
 pub use read_pattern::{ReadPattern, matches_read, searches_read};
 pub use slice::bounds_of;
