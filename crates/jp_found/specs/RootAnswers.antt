@@ -5,6 +5,8 @@ use Rattle.jp_doc.specs.Json.{Json, number, text}
 use Rattle.jp_number.specs.Number.{whole}
 use Rattle.jp_found.specs.Identical.{identical}
 use Rattle.jp_value.specs.Functions.{length_value}
+use Rattle.jp_value.specs.Ordered.{ordered_value}
+use Rattle.jp_value.specs.declared.ordered.Ordered.{Ordered}
 use Rattle.jp_value.specs.declared.read_pattern.ReadPattern.{ReadPattern}
 use Rattle.jp_found.specs.Aggregates.{told}
 use Rattle.jp_found.specs.declared.aggregates.Aggregate.{Aggregate}
@@ -27,3 +29,8 @@ IsLength (Number n) v = Some (number (whole n)) ≡ length_value v
 abbrev pub is_pattern : Option ReadPattern → Aggregate → Bool
 is_pattern None a = true
 is_pattern (Some r) a = identical (Some (text (chars r.text.now))) (told a)
+
+-- what is put in order is the value that is told, where it is kept
+abbrev pub is_in_order : Option Ordered → Aggregate → Bool
+is_in_order None a = true
+is_in_order (Some o) a = identical (Some (ordered_value o)) (told a)

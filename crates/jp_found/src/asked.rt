@@ -12,6 +12,8 @@ pub struct RootUse {
     pub length: bool,
     /// Whether texts match one, taken as a pattern.
     pub pattern: bool,
+    /// Whether one is compared with values of nodes.
+    pub compared: bool,
 }
 
 impl RootUse {
@@ -19,6 +21,7 @@ impl RootUse {
     pub const NOTHING: RootUse = RootUse {
         length: false,
         pattern: false,
+        compared: false,
     };
 }
 
@@ -58,6 +61,7 @@ fn in_logical(test: &CompiledLogical, asked: &mut RootUse) {
         CompiledLogical::All(parts) => in_parts(parts.as_slice(), asked),
         CompiledLogical::Not(part) => in_logical(part, asked),
         CompiledLogical::Compare(left, _, right) => {
+            asked.compared = asked.compared || is_root_beside_node(left, right);
             in_value(left, asked);
             in_value(right, asked);
         }
@@ -118,6 +122,20 @@ fn is_root(value: &Giver) -> bool {
     match value {
         Giver::Single(Nodes::Root(_)) => true,
         Giver::Only(Nodes::Root(_)) => true,
+        _ => false,
+    }
+}
+
+/// Whether one of the two is the value of a `$` query, and the other that of a node.
+fn is_root_beside_node(left: &Giver, right: &Giver) -> bool {
+    (is_root(left) && is_of_node(right)) || (is_of_node(left) && is_root(right))
+}
+
+/// Whether the value is that of a node, and not of the document alone.
+fn is_of_node(value: &Giver) -> bool {
+    match value {
+        Giver::Single(_) => !is_root(value),
+        Giver::Only(_) => !is_root(value),
         _ => false,
     }
 }

@@ -4,13 +4,15 @@ ghost use Rattle.std.specs.Prelude.{◌≡◌, Some, IfOk, IfSome, true};
 ghost use Rattle.std.specs.Str.{chars};
 ghost use Rattle.jp_doc.specs.Json.{text};
 ghost use Rattle.jp_found.specs.Aggregates.{told};
-ghost use Rattle.jp_found.specs.RootAnswers.{is_length, is_pattern};
+ghost use Rattle.jp_found.specs.RootAnswers.{is_length, is_pattern, is_in_order};
+ghost use Rattle.jp_node.specs.Inside.{kind_value};
 ghost use Rattle.jp_value.specs.Kinds.{given_value};
+ghost use Rattle.jp_value.specs.Ordered.{ordered_value};
 
 use crate::aggregates::{Aggregate, operand};
 use crate::asked::RootUse;
 use jp_node::Kind;
-use jp_value::{ReadPattern, length};
+use jp_value::{Ordered, ReadPattern, length, order};
 use std::alloc::{AllocError, Global};
 
 /// The answer to a `$` query, with what each node would ask of its value again.
@@ -22,8 +24,11 @@ pub struct RootAnswer<'v> {
     pub length: Length,
     /// The pattern that its value is, where that is a text, and texts are matched with one.
     pattern: Option<ReadPattern<'v>>,
+    /// Its value, where values of nodes are compared with it and an object of a line is inside.
+    ordered: Option<Ordered<'v>>,
     ghost length_is: { is_length length answer ≡ true },
     ghost pattern_is: { is_pattern pattern answer ≡ true },
+    ghost ordered_is: { is_in_order ordered answer ≡ true },
 }
 
 /// What `length` gives of a value, where that is kept.
@@ -52,10 +57,12 @@ impl<'v> RootAnswer<'v> {
         // length.
         let length = length_of(alloc, answer, asked)?;
         let pattern = pattern_of(alloc, answer, asked)?;
+        let ordered = ordered_of(alloc, answer, asked)?;
         Ok(RootAnswer {
             answer,
             length,
             pattern,
+            ordered,
         })
     }
 
@@ -71,6 +78,13 @@ impl<'v> RootAnswer<'v> {
         ensures { IfSome result (λ r. told self.now.answer ≡ Some (text (chars r.now.text.now))) }
     {
         self.pattern.as_ref()
+    }
+
+    /// The value with its members in order, if it is kept.
+    pub fn ordered(&self) -> Option<&Ordered<'v>>
+        ensures { IfSome result (λ o. told self.now.answer ≡ Some (ordered_value o.now)) }
+    {
+        self.ordered.as_ref()
     }
 }
 
@@ -102,5 +116,32 @@ fn pattern_of<'v>(
     match operand(answer) {
         Some(Kind::Text(text)) => Ok(Some(ReadPattern::read(alloc, text)?)),
         _ => Ok(None),
+    }
+}
+
+/// The value that an answer tells, its members in order, where values of nodes are compared with such.
+fn ordered_of<'v>(
+    alloc: Global,
+    answer: Aggregate<'v>,
+    asked: RootUse,
+) -> Result<Option<Ordered<'v>>, AllocError>
+    ensures { IfOk result (λ o. is_in_order o answer.entry ≡ true) }
+{
+    if !asked.compared {
+        return Ok(None);
+    }
+    match operand(answer) {
+        Some(kind) => put_in_order(alloc, kind),
+        None => Ok(None),
+    }
+}
+
+/// The value with its members in order, if there are any.
+fn put_in_order<'v>(alloc: Global, kind: Kind<'v>) -> Result<Option<Ordered<'v>>, AllocError>
+    ensures { IfOk result (λ r. IfSome r (λ o. ordered_value o ≡ kind_value kind.entry)) }
+{
+    match order(alloc, kind)? {
+        Ordered::Plain(_) => Ok(None),
+        ordered => Ok(Some(ordered)),
     }
 }
