@@ -1,5 +1,6 @@
 -- The first byte of a line that ends a plain text, by the mask of a vector of its bytes.
-use Rattle.std.proofs.Common.{◌≡◌, ℕ, ◌+◌, ◌*◌, ◌%◌, ◌^◌, ◌<◌, ◌≤◌, Bool, true, false, not, ◌||◌, cond}
+use Rattle.std.proofs.Common.{◌≡◌, ℕ, zero, suc, ◌+◌, ◌-◌, ◌*◌, ◌/◌, ◌%◌, ◌^◌, ◌<◌, ◌≤◌, Bool, true, false, not}
+use Rattle.std.proofs.Common.{◌||◌, cond}
 use Rattle.std.proofs.Common.{eqb, ltb, List, [], ◌∷◌, map, length, drop, bit_or, refl, sym, ap, ap₂}
 use Rattle.std.proofs.Common.{◌∙◌, arith, length-drop}
 use Rattle.std.proofs.lemmas.Bool.{eq-eqb, ne_eqb}
@@ -7,6 +8,8 @@ use Rattle.std.proofs.lemmas.List.{length-map}
 use Rattle.std.proofs.lemmas.List.Folds.{prefix_len-append}
 use Rattle.std.proofs.lemmas.List.Sums.{prefix_len-le-length}
 use Rattle.std.proofs.lemmas.Simd.{chunk-drop, length-chunk, first_set_mask_l, mask_l-mod}
+use Rattle.std.proofs.Math.Nat.{pow-succ', div-div-eq-div-mul}
+use Rattle.std.proofs.lemmas.List.{drop-drop, drop-map, take_all}
 use Rattle.std.specs.List.{prefix_len}
 use Rattle.json.specs.Run.{is_stop, is_plain}
 use lib.Count.{count_trailing_zeros}
@@ -107,3 +110,47 @@ pub plain_within : (line : List ℕ) (at : ℕ) → at ≤ length line
     → at + prefix_len is_plain (drop at line) ≤ length line
 plain_within line at h =
     omega (arith, prefix_len-le-length is_plain (drop at line), length-drop at line)
+
+-- ---- the last vector of a line, of which the front is left out
+
+halved : (b : Bool) (m : ℕ) → (cond b 1 0 + 2 * m) / 2 ≡ m
+halved true m = omega arith
+halved false m = omega arith
+
+none_left : (n : ℕ) → drop {A = Bool} n [] ≡ []
+none_left zero = refl
+none_left (suc n) = refl
+
+-- a mask without its lowest bits is that of the others
+mask_shifted : (bs : List Bool) (n : ℕ) → mask_l bs / 2 ^ n ≡ mask_l (drop n bs)
+mask_shifted bs zero = omega arith
+mask_shifted [] (suc n) =
+    ap (λ k. 0 / k) (pow-succ' 2 n) ∙ sym (div-div-eq-div-mul 0 2 (2 ^ n)) ∙ mask_shifted [] n
+    ∙ ap mask_l (none_left n)
+mask_shifted (b ∷ bs) (suc n) =
+    ap (λ k. mask_l (b ∷ bs) / k) (pow-succ' 2 n)
+    ∙ sym (div-div-eq-div-mul (mask_l (b ∷ bs)) 2 (2 ^ n))
+    ∙ ap (λ k. k / 2 ^ n) (halved b (mask_l bs))
+    ∙ mask_shifted bs n
+
+module _ (line : List ℕ) (from last n : ℕ) (ends : last + 16 ≡ length line) (place : last + n ≡ from)
+    (le : from ≤ length line) where
+  left : ℕ
+  left = 16 - n
+
+  in_chunk : drop n (chunk last 16 line) ≡ chunk from (16 - n) line
+  in_chunk =
+      ap (drop n) (take_all 16 (drop last line) (omega (arith, length-drop last line)))
+      ∙ drop-drop n last line
+      ∙ ap (λ k. drop k line) place
+      ∙ sym (take_all (16 - n) (drop from line) (omega (arith, length-drop from line)))
+
+  pub shifted_mask : mask_l (map is_stop (chunk last 16 line)) / 2 ^ n
+      ≡ mask_l (map is_stop (chunk from (16 - n) line))
+  shifted_mask =
+      mask_shifted (map is_stop (chunk last 16 line)) n
+      ∙ ap mask_l (drop-map is_stop n (chunk last 16 line) ∙ ap (map is_stop) in_chunk)
+
+-- behind the line no byte is plain
+pub none_behind : (line : List ℕ) (at : ℕ) → length line ≤ at → prefix_len is_plain (drop at line) ≡ 0
+none_behind line at past = omega (arith, prefix_len-le-length is_plain (drop at line), length-drop at line)

@@ -46,7 +46,27 @@ pub(crate) fn plain_end(line: &[u8], from: usize) -> usize
         }
         at += LANES;
     }
-    plain_end_by_bytes(line, at)
+    if line.len() < LANES {
+        return plain_end_by_bytes(line, at);
+    }
+    plain_end_in_last(line, at)
+}
+
+/// The same, where fewer bytes are left than a vector has: the last vector of the line ends where the line
+/// does, and what stands before the place in it is left out.
+#[inline(always)]
+fn plain_end_in_last(line: &[u8], from: usize) -> usize
+    requires long { LANES ≤ length line.now }
+    requires left { (from ≤ length line.now) × (length line.now < from + LANES) }
+    ensures value { result ≡ from + prefix_len is_plain (drop from line.now) }
+    ensures within { result ≤ length line.now }
+{
+    let last = line.len() - LANES;
+    let found = stops(u8x16::from_slice(&line[last..])) >> (from - last) as u32;
+    if found != 0 {
+        return from + found.trailing_zeros() as usize;
+    }
+    line.len()
 }
 
 /// The same, byte by byte.
