@@ -1,12 +1,11 @@
 //! A text between single quotes.
 
-ghost use Rattle.std.specs.Prelude.{◌≡◌, ◌≤◌, ◌++◌, IfOk, OnOk, Some};
+ghost use Rattle.std.specs.Prelude.{◌≡◌, ◌≤◌, ◌++◌, IfOk, OnOk};
 ghost use Rattle.std.specs.List.{AllByRecursion};
 ghost use Rattle.std.specs.Str.{chars};
 ghost use Rattle.jp_tree.specs.Tree as tree;
 ghost use Rattle.jp_tree.specs.Spelling.{LiteralIs};
 ghost use Rattle.jp_tree.specs.View.{text_of};
-ghost use Rattle.jp_tokens.specs.Reading.{literal_at};
 ghost use Rattle.jp_node.specs.Path.{escaped};
 ghost use Rattle.jp_quote.specs.Quoted.{quoted_text};
 
@@ -25,9 +24,9 @@ pub fn quote(alloc: Global, text: &str) -> Result<String, AllocError>
     ensures literal { IfOk result (λ s. LiteralIs (text_of s) (tree.text (chars text.now))) }
     ensures only { IfOk result (λ s. (x : tree.Literal) → LiteralIs (text_of s) x
         → x ≡ tree.text (chars text.now)) }
-    // Whatever stands behind it in a query: that is the rest where the literal is read.
-    ensures read { IfOk result (λ s. (rest : tree.Text)
-        → literal_at (text_of s ++ rest) ≡ Some (tree.text (chars text.now), rest)) }
+    // Whatever stands behind it in a query: no other literal stands there in front, so it ends where it ends.
+    ensures alone { IfOk result (λ s. (behind front rest : tree.Text) (x : tree.Literal)
+        → LiteralIs front x → text_of s ++ behind ≡ front ++ rest → front ≡ text_of s) }
     // It has no control character below the space, so it is one line.
     ensures line { IfOk result (λ s. AllByRecursion (λ c. 32 ≤ c) (text_of s)) }
 {

@@ -1,12 +1,12 @@
-use Rattle.std.proofs.Common.{◌∙◌, map-id, sym, subst}
+use Rattle.std.proofs.Common.{◌∙◌, ◌++◌, ap, map-id, sym, subst}
 use Rattle.std.proofs.lemmas.Iterator.{YieldsList-from_chars}
 use Rattle.std.proofs.lemmas.Iterator.Consumers.{YieldsList-end}
 use Rattle.std.specs.Str.{chars}
 use Rattle.jp_tree.specs.Tree as tree
 use Rattle.jp_tree.specs.Tree.{Text}
 use Rattle.jp_tree.specs.Spelling.{LiteralIs}
-use Rattle.jp_quote.proofs.Literals.{IsLine, begun, closed, quoted_line, quoted_literal, quoted_only}
-use Rattle.jp_quote.proofs.Literals.{read_so}
+use Rattle.jp_quote.proofs.Literals.{IsLine, begun, closed, quoted_alone, quoted_line, quoted_literal}
+use Rattle.jp_quote.proofs.Literals.{quoted_only}
 use Rattle.jp_quote.proofs.Scalars.{chars_are_scalar}
 use Rattle.jp_quote.proofs.literal.quote.Goals as goal
 
@@ -29,9 +29,11 @@ pub returns-clause-only : goal.returns-clause-only
 returns-clause-only c = λ x p. quoted_only _ x (chars_are_scalar c.args.text.now c.utf8.text)
     (subst (λ (t : Text). LiteralIs t x) (returns-clause-written c) p)
 
-pub returns-clause-read : goal.returns-clause-read
-returns-clause-read c = λ rest. read_so _ _ rest (returns-clause-written c)
-    (chars_are_scalar c.args.text.now c.utf8.text)
+pub returns-clause-alone : goal.returns-clause-alone
+returns-clause-alone c = λ behind front rest x p e.
+    let written = returns-clause-written c in
+    quoted_alone _ behind front rest x (chars_are_scalar c.args.text.now c.utf8.text) p
+    (ap (λ (t : Text). t ++ behind) (sym written) ∙ e) ∙ sym written
 
 pub returns-clause-line : goal.returns-clause-line
 returns-clause-line c = subst IsLine (sym (returns-clause-written c)) (quoted_line (chars c.args.text.now))
