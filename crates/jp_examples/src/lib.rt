@@ -23,6 +23,7 @@ mod path;
 mod pattern;
 mod program;
 mod query_scan;
+mod quote;
 mod regexp;
 mod run;
 mod select;

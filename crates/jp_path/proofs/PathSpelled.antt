@@ -7,25 +7,21 @@ use Rattle.jp_doc.specs.Location as at
 use Rattle.jp_doc.specs.Location.{Location}
 use Rattle.jp_tree.specs.Tree.{Text, Query}
 use Rattle.jp_tree.specs.Tree as tree
-use Rattle.jp_tree.specs.Characters.{is_scalar}
-use Rattle.jp_tree.specs.Parts.{Each, Star, none, more, Behind, behind, separated}
-use Rattle.jp_tree.specs.Strings.{IsString, quoted}
+use Rattle.jp_tree.specs.Parts.{Star, none, more, Behind, behind, separated}
 use Rattle.jp_tree.specs.Spelling as sp
 use Rattle.jp_tree.specs.Spelling.{Spells, spells, SegmentIs, SelectorIs, LogicalIs}
 use Rattle.jp_tokens.specs.Depth.{outside, bracket_depth}
 use Rattle.jp_syntax.proofs.OneTree.{one_tree}
 use Rattle.jp_node.specs.Path.{escaped, step_text, path_text}
+use Rattle.jp_quote.proofs.Literals.{quoted_string}
 use Rattle.jp_path.specs.PathQuery.{step_segment, path_query, IsStep, AreSteps}
-use Rattle.jp_path.proofs.EscapedName.{name_pieces, name_stays, quoted_place}
+use Rattle.jp_path.proofs.EscapedName.{name_stays, quoted_place}
 use Rattle.jp_path.proofs.IndexText.{decimal_is_int, decimal_stays}
 use Rattle.jp_path.proofs.Passing.{Passes, passes_none, passes_on}
 
 -- no logical expression stands inside
 abbrev Nowhere : Text → tree.Logical → Type 0
 Nowhere = LogicalIs 0
-
-name_string : (k : Text) → Each is_scalar k → IsString (39 ∷ flat_map escaped k ++ 39 ∷ []) k
-name_string k h = quoted 39 (flat_map escaped k) k refl (name_pieces k h)
 
 -- the quotes and the brackets round a name, and the brackets round an index
 name_joined : (t : Text) → 91 ∷ ((39 ∷ t ++ 39 ∷ []) ++ []) ++ 93 ∷ [] ≡ 91 ∷ 39 ∷ (t ++ 39 ∷ 93 ∷ [])
@@ -45,7 +41,7 @@ step_spelled : (s : at.Step) → IsStep s → SegmentIs Nowhere (step_text s) (s
 step_spelled (at.name k) h =
     subst (λ (t : Text). SegmentIs Nowhere t (step_segment (at.name k))) (name_joined (flat_map escaped k))
     (bracket (39 ∷ flat_map escaped k ++ 39 ∷ []) (tree.name k) (sp.name (39 ∷ flat_map escaped k ++ 39 ∷ [])
-    k (name_string k h)))
+    k (quoted_string k h)))
 step_spelled (at.index i) h =
     subst (λ (t : Text). SegmentIs Nowhere t (step_segment (at.index i))) (index_joined (decimal i))
     (bracket (decimal i) (tree.index (decimal i)) (sp.index (decimal i) (decimal_is_int i h)))

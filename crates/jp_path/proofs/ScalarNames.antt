@@ -1,8 +1,7 @@
 -- Names that are texts of scalar values, at every level: those of a document, and those of a line's tree.
-use Rattle.std.proofs.Common.{ℕ, List, Ordering, Less, Equal, Greater}
-use Rattle.std.proofs.lemmas.Str.{scalars-chars}
+use Rattle.std.proofs.Common.{Ordering, Less, Equal, Greater}
 use Rattle.std.specs.Ordering.{match_ordering}
-use Rattle.std.specs.Str.{chars, IsUtf8}
+use Rattle.std.specs.Str.{chars}
 use Rattle.json.specs.Json as grammar
 use Rattle.serde_json.specs.Data as crate_data
 use Rattle.serde_json.specs.Data.{Data}
@@ -13,7 +12,7 @@ use Rattle.jp_doc.proofs.TextLaws.{IsOfValue, ItemsAreOfValue, MembersAreOfValue
 use Rattle.jp_doc.proofs.TreeNames.{NamesAreTexts, ItemNamesAreTexts, MemberNamesAreTexts}
 use Rattle.jp_tree.specs.Characters.{is_scalar}
 use Rattle.jp_tree.specs.Parts.{Each}
-use Rattle.jp_path.proofs.SourceSteps.{each_scalar}
+use Rattle.jp_quote.proofs.Scalars.{chars_are_scalar}
 
 abbrev mutual
   pub HasScalarNames : Json → Type 0
@@ -33,9 +32,6 @@ abbrev mutual
   MembersHaveScalarNames (add_member k v ms) =
       Each is_scalar k × HasScalarNames v × MembersHaveScalarNames ms
 
-name_is_scalar : (s : List ℕ) → IsUtf8 s → Each is_scalar (chars s)
-name_is_scalar s u = each_scalar (chars s) (scalars-chars s u)
-
 -- ---- what the JSON crate has
 
 mutual
@@ -54,7 +50,7 @@ mutual
   members_names : (ms : crate_data.Members) → MembersAreOfValue ms → MembersHaveScalarNames (members_of ms)
   members_names crate_data.no_members h = tt
   members_names (crate_data.member k d ms) h =
-      (name_is_scalar k h.0, data_names d h.1, members_names ms h.2)
+      (chars_are_scalar k h.0, data_names d h.1, members_names ms h.2)
 
 -- ---- trees
 
@@ -90,4 +86,4 @@ mutual
   tree_members_names grammar.no_members put h p = p
   tree_members_names (grammar.member k j ms) put h p =
       tree_members_names ms (put_member (chars k) (tree_json j) put) h.2
-      (names_put (chars k) (tree_json j) put (name_is_scalar k h.0) (tree_names j h.1) p)
+      (names_put (chars k) (tree_json j) put (chars_are_scalar k h.0) (tree_names j h.1) p)

@@ -1,15 +1,12 @@
 -- The steps of `src/`, and the segments made of them.
-use Rattle.std.proofs.Common.{◌≡◌, ℕ, ◌+◌, ◌<◌, add-one, drop, length, get_or, map, true, IsTrue, Result, Ok}
+use Rattle.std.proofs.Common.{◌≡◌, ℕ, ◌+◌, ◌<◌, add-one, drop, length, get_or, map, Result, Ok}
 use Rattle.std.proofs.Common.{Err, List, [], ◌∷◌, ◌++◌, refl, ap, sym, ◌∙◌, subst, append_assoc, arith}
 use Rattle.std.specs.Prelude.{IfOk, String, string_bytes}
 use Rattle.std.specs.Str.{chars, IsAscii}
 use Rattle.std.specs.declared.alloc.Global.{Global}
 use Rattle.std.proofs.Math.Seq.{drop-cons}
-use Rattle.std.proofs.Math.Utf8.{scalar, scalars}
-use Rattle.std.proofs.lemmas.Bool.{and_parts}
-use Rattle.std.proofs.lemmas.Bool.Decides.{nat_tests}
 use Rattle.std.proofs.lemmas.List.{map-append}
-use Rattle.std.proofs.lemmas.Str.{chars-IsAscii, scalars-chars, IsUtf8-string_bytes}
+use Rattle.std.proofs.lemmas.Str.{chars-IsAscii, IsUtf8-string_bytes}
 use Rattle.jp_doc.specs.Location.{step_of}
 use Rattle.jp_doc.specs.declared.location.Step as code
 use Rattle.jp_tree.specs.Tree as tree
@@ -17,6 +14,7 @@ use Rattle.jp_tree.specs.Characters.{is_scalar}
 use Rattle.jp_tree.specs.Parts.{Each}
 use Rattle.jp_tree.specs.PartViews.{segment_of, segments_of}
 use Rattle.jp_tree.specs.declared.tree.Segment.{Segment}
+use Rattle.jp_quote.proofs.Scalars.{chars_are_scalar}
 use Rattle.jp_path.specs.PathQuery.{step_segment, IsStep, AreSteps}
 
 -- a text of ASCII characters
@@ -25,18 +23,9 @@ pub ascii_text : {E : Type 0} (r : Result (String Global) E) (bs ds : List ℕ) 
 ascii_text (Ok s) bs ds a e h = ap chars h ∙ chars-IsAscii bs a ∙ e
 ascii_text (Err x) bs ds a e h = tt
 
-is_scalar_value : (c : ℕ) → scalar c ≡ true → IsTrue (is_scalar c)
-is_scalar_value c h = grind (arith, nat_tests)
-
-pub each_scalar : (cs : List ℕ) → scalars cs ≡ true → Each is_scalar cs
-each_scalar [] h = tt
-each_scalar (c ∷ cs) h = let parts = and_parts (scalar c) (scalars cs) h in
-    (is_scalar_value c parts.0, each_scalar cs parts.1)
-
 -- a string holds scalar values alone
 pub text_is_scalar : (s : String Global) → Each is_scalar (chars (string_bytes s))
-text_is_scalar s = each_scalar (chars (string_bytes s))
-    (scalars-chars (string_bytes s) (IsUtf8-string_bytes s))
+text_is_scalar s = chars_are_scalar (string_bytes s) (IsUtf8-string_bytes s)
 
 abbrev segments_behind : List code.Step → List tree.Segment
 segments_behind steps = map step_segment (map step_of steps)
