@@ -55,6 +55,10 @@ GROUPS = [
         ("jp_program", "src/laws", "no_file"),
         ("jp_program", "src/laws", "none_is_passed"),
     ]),
+    ("Read as a literal of a query by RFC 9535 (2.3.1) it has the one value VALUE", FURTHER, [
+        ("jp_quote", "src/literal", "quote"),
+        ("jp_program", "src/laws", "quoting_stands_alone"),
+    ]),
     ("A line has just two tabs, and one line feed, its last byte, whatever the names and texts hold", FURTHER, [
         ("jp_output", "src/laws", "three_fields"),
         ("jp_answer", "src/laws", "three_fields"),

@@ -13,14 +13,14 @@ _jp() {
             mapfile -t COMPREPLY < <(compgen -W 'nodes values texts raw lines' -- "$word")
             return
             ;;
-        --where | --workers | --piece | --batch | --first)
+        --where | --quote | --workers | --piece | --batch | --first)
             compopt +o default
             return
             ;;
     esac
     if [[ $word != -* ]]; then return; fi
     local options='--output --where --workers --piece --batch --first --check --decimals --keep-going'
-    options+=' --explain --exit-status --documents --with-filename --help --version'
+    options+=' --explain --exit-status --documents --with-filename --quote --help --version'
     mapfile -t COMPREPLY < <(compgen -W "$options" -- "$word")
 }
 # Where the function offers nothing, as behind < and >, bash completes file names.

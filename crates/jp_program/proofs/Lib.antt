@@ -2,8 +2,10 @@ mod Fields
 mod Going
 mod Manners
 mod Naming
+mod NotTaken
 mod Noted
 mod OneWish
+mod Printing
 mod Ran
 mod Saying
 mod Splits

@@ -1,6 +1,8 @@
 -- The command line, as data: which options there are, and what the words of one say. What `clap` makes of
 -- words is its own definition (`matches_of`, `fault_of`).
-use Rattle.std.specs.Prelude.{ℕ, ◌≢◌, ◌⊎◌, true, List, [], ◌∷◌, Some, codes}
+use Rattle.std.specs.Prelude.{ℕ, ◌≡◌, ◌≢◌, ◌⊎◌, true, List, [], ◌∷◌, Option, Some, None, is_some, codes}
+use Rattle.std.specs.Prelude.{if◌then◌else◌}
+use Rattle.std.specs.Str.{bytes_eq}
 use Rattle.clap.specs.Walk.{Rule, Row, Text}
 use Rattle.clap.specs.Simple.{App, new_app, new_rule, with_rule, on_top, matches_of}
 use Rattle.clap.specs.Kinds.{Kinds, IsAmong}
@@ -97,3 +99,14 @@ AsksToShow words = IsAmong DisplayHelp (refusals words) ⊎ IsAmong DisplayVersi
 abbrev pub IsRefused : List Text → Type 0
 IsRefused words = (kind : ErrorKind) × IsAmong kind (refusals words) × (kind ≢ DisplayHelp)
     × (kind ≢ DisplayVersion)
+
+-- ---- a text to be quoted, which `clap` is not asked of: whatever the text begins with, it is no option
+
+-- the text that the words ask to be quoted: they are three, and `--quote` stands before it
+abbrev pub to_quote : List Text → Option Text
+to_quote (name ∷ option ∷ value ∷ []) = if bytes_eq option (codes "--quote") then Some value else None
+to_quote words = None
+
+-- they ask for that
+abbrev pub AsksToQuote : List Text → Type 0
+AsksToQuote words = is_some (to_quote words) ≡ true

@@ -3,19 +3,20 @@
 ghost use Rattle.std.specs.Prelude.{◌≡◌, ◌^◌, ◌<◌, ◌≤◌, ◌⊎◌, ℕ, List, true, false, Some, None, Err, IfOk};
 ghost use Rattle.std.specs.Prelude.{IfErr, IsErrOf, OnOk, []};
 ghost use Rattle.std.specs.Io.KnownBytes.{Appends, IsAtEnd, Keeps};
-ghost use Rattle.clap.specs.Walk.{texts};
+ghost use Rattle.clap.specs.Walk.{Text, texts};
 ghost use Rattle.jp_doc.specs.declared.fault.DocFault.{DocFault as Fault};
 ghost use Rattle.jp_answer.specs.declared.on_fault.OnFault.TheVariants.{Stop, KeepGoing};
 ghost use Rattle.jp_run.specs.declared.fault.RunFault.{RunFault as End};
 ghost use Rattle.jp_run.specs.Status.{status_of};
 ghost use Rattle.jp_run.specs.Written.{IsPassedOn};
-ghost use Rattle.jp_program.specs.CommandLine.{AsksToShow};
+ghost use Rattle.jp_program.specs.CommandLine.{AsksToQuote, AsksToShow, to_quote};
 ghost use Rattle.jp_program.specs.Inputs.{EachInTurn, EndsIn, inputs_of};
 ghost use Rattle.jp_program.specs.Outcome.{IsStatus, IsTaken, IsAnswered, ArePassed, IsWholeOrCut, IsFront};
 ghost use Rattle.jp_program.specs.Outcome.{IsRefusedWish};
 ghost use Rattle.jp_program.specs.Outcome.{AreEmptyAnswers, AreKnownEmptyAnswers, AreFailed, AreOpened};
 ghost use Rattle.jp_program.specs.Outcome.{ArePrompt, AreNear};
 ghost use Rattle.jp_program.specs.inner.Ended.{HasEnded};
+ghost use Rattle.jp_program.specs.Printed.{IsPrinted};
 ghost use Rattle.jp_program.specs.Told.{IsTold};
 ghost use Rattle.jp_program.specs.Wanted.{Wanted as Wish, Wants, WantsCheck, WantsRun, IsWrong};
 
@@ -25,6 +26,7 @@ use crate::each::answer_files;
 use crate::file_notes::RunEnd;
 use crate::inputs::Inputs;
 use crate::pattern_notes::tell_prepared_patterns;
+use crate::quoting::{print_literal, value_to_quote};
 use crate::turn::{Search, run_named};
 use crate::witness::Witness;
 use jp_answer::OnFault;
@@ -49,11 +51,11 @@ pub(crate) const NOTHING_SEEN: Totals = Totals {
 /// sink whose reader has gone nothing is told. Before anything is read they are told of literal patterns that
 /// may not match what was meant. A failure to write them, or the help, is passed over.
 ///
-/// The status is 0 where the run finished, or the help, the version or a check was asked for; 1 where the run
-/// finished, selected nothing, and the words ask for that to be told so; 2 where the query, or the filter, is
-/// refused; 3 where a line is faulty, also where the answer has gone on past it; 4 where reading or writing
-/// failed, also where the answer has gone on past a file, or a limit was passed; 5 where a growth of memory
-/// was refused; 64 where the command line is refused.
+/// The status is 0 where the run finished, or a literal, the help, the version or a check was asked for; 1
+/// where the run finished, selected nothing, and the words ask for that to be told so; 2 where the query, or
+/// the filter, is refused; 3 where a line is faulty, also where the answer has gone on past it; 4 where
+/// reading or writing failed, also where the answer has gone on past a file, or a limit was passed; 5 where a
+/// growth of memory was refused; 64 where the command line is refused.
 pub fn program<R: Threads + AllocGlobal + Sync, S: Source<K>, I: Inputs<S>, K: Sink, N: Sink>(
     rt: &R,
     words: &[&str],
@@ -67,12 +69,13 @@ pub fn program<R: Threads + AllocGlobal + Sync, S: Source<K>, I: Inputs<S>, K: S
         × (I.opens inputs.old ≤ 2 ^ 62) }
     // There is no other status.
     ensures statuses { IsStatus result }
-    // 0 or 1: the help or the version was asked for, and nothing was opened or read; or a check of a query
-    // that is accepted, and nothing was opened, read or written; or a run, whose query is accepted and has no
-    // faulty line before it: its answer to each whole input in turn was written and passed on, each file was
-    // opened once, and no end has failed.
+    // 0 or 1: a literal was asked for, of which the next clause speaks; or the help or the version was, and
+    // nothing was opened or read; or a check of a query that is accepted, and nothing was opened, read or
+    // written; or a run, whose query is accepted and has no faulty line before it: its answer to each whole
+    // input in turn was written and passed on, each file was opened once, and no end has failed.
     ensures finished { (result ≡ 0) ⊎ (result ≡ 1)
-        → (AsksToShow (texts words.now) × (inputs.new ≡ inputs.old) × (source.new ≡ source.old))
+        → AsksToQuote (texts words.now)
+        ⊎ (AsksToShow (texts words.now) × (inputs.new ≡ inputs.old) × (source.new ≡ source.old))
         ⊎ ((w : Wish) × WantsCheck (texts words.now) w × IsTaken w
         × (inputs.new ≡ inputs.old) × (source.new ≡ source.old) × (sink.new ≡ sink.old))
         ⊎ ((w : Wish) × WantsRun (texts words.now) w × IsTaken w
@@ -81,6 +84,11 @@ pub fn program<R: Threads + AllocGlobal + Sync, S: Source<K>, I: Inputs<S>, K: S
         × AreOpened w (I.opens inputs.old) (I.opens inputs.new) (I.broken inputs.old) (I.broken inputs.new)
         × IsAtEnd (S.remaining source.new) × (K.flushed sink.new ≡ true)
         × (S.failed source.new ≡ false) × (K.failed sink.new ≡ false)) }
+    // Where a literal is asked for: it was printed, with 0; or the sink has failed, with 4; or memory was
+    // wanted, with 5. Nothing was opened or read.
+    ensures quoted { (value : Text) → to_quote (texts words.now) ≡ Some value
+        → IsPrinted value result (K.contents sink.old) (K.contents sink.new) (K.flushed sink.new)
+        (K.failed sink.new) × (inputs.new ≡ inputs.old) × (source.new ≡ source.old) }
     // 1: this status is asked for where nothing is selected, and nothing is, in any input.
     ensures nothing { result ≡ 1 → (w : Wish) × WantsRun (texts words.now) w × (w.exit_status ≡ true)
         × AreEmptyAnswers w (inputs_of w.files (I.holds inputs.old) (S.remaining source.old)) }
@@ -116,11 +124,12 @@ pub fn program<R: Threads + AllocGlobal + Sync, S: Source<K>, I: Inputs<S>, K: S
         × AreOpened w (I.opens inputs.old) (I.opens inputs.new) (I.broken inputs.old) (I.broken inputs.new)
         × IsAtEnd (S.remaining source.new) × (K.flushed sink.new ≡ true)
         × (S.failed source.new ≡ false) × (K.failed sink.new ≡ false)) }
-    // 4: the answer to each input before some one was written, and of that one a front of the wanted answer;
-    // it has failed, or the sink has, or a limit was passed, and no file behind it was opened. Or to keep
-    // going was asked for, and each file was opened once; of each the answer was written, or it was cut short
-    // by a failure of its own, and that to all documents whose line's end was read; at least one has failed.
-    ensures failed { result ≡ 4 → (w : Wish) × WantsRun (texts words.now) w
+    // 4: a literal was asked for; or the answer to each input before some one was written, and of that one a
+    // front of the wanted answer; it has failed, or the sink has, or a limit was passed, and no file behind
+    // it was opened. Or to keep going was asked for, and each file was opened once; of each the answer was
+    // written, or it was cut short by a failure of its own, and that to all documents whose line's end was
+    // read; at least one has failed.
+    ensures failed { result ≡ 4 → AsksToQuote (texts words.now) ⊎ ((w : Wish) × WantsRun (texts words.now) w
         × AreFailed w (record {
           rest = S.remaining source.new;
           reads = S.reads source.old;
@@ -134,7 +143,7 @@ pub fn program<R: Threads + AllocGlobal + Sync, S: Source<K>, I: Inputs<S>, K: S
           broken_new = I.broken inputs.new;
           contents = K.contents sink.old;
           contents_new = K.contents sink.new;
-        }) }
+        })) }
     // 5: nothing was opened, read or written, or the answer to each input before some one was written, and of
     // that one a front of the wanted answer.
     ensures memory { result ≡ 5
@@ -177,6 +186,9 @@ pub fn program<R: Threads + AllocGlobal + Sync, S: Source<K>, I: Inputs<S>, K: S
     ensures window { (w : Wish) → WantsRun (texts words.now) w → w.files ≡ [] → AreNear w (S.begun source.old)
         (S.begun source.new) (S.remaining source.old) (K.contents sink.old) }
 {
+    if let Some(value) = value_to_quote(words) {
+        return print_literal(rt.alloc(), sink, notes, value);
+    }
     let opened = inputs.opens();
     let mut witness = Witness::new(rt.alloc());
     match done(rt, words, inputs, source, sink, notes, &mut witness) {
@@ -333,7 +345,7 @@ fn show<K: Sink>(sink: &mut K, text: &str)
 
 /// After a fault of a run, passes on what stands before it; where that can't be, the fault still tells.
 /// After a refused query or command line there is nothing.
-fn pass_on_after<K: Sink>(sink: &mut K, fault: &RunFault)
+pub(crate) fn pass_on_after<K: Sink>(sink: &mut K, fault: &RunFault)
     ensures kept { Keeps (K.contents sink.old) (K.contents sink.new) }
     ensures passed_on { (status_of fault.now ≡ 3) ⊎ (status_of fault.now ≡ 4) ⊎ (status_of fault.now ≡ 5)
         → IsPassedOn (K.flushed sink.new) (K.failed sink.new) }

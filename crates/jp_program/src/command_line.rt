@@ -37,6 +37,7 @@ Examples:
   jp --workers 8 '$.items[?@.count > 10]' < orders.jsonl
   jp --check '$[?count(@.*) > 1]'
   jp --explain '$.id' < mixed.jsonl
+  jp --where \"@.service==$(jp --quote \"$name\")\" '$.msg' < app.log
 
 INPUT is read from each FILE in turn, or from standard input: one JSON document
 on each line. Lines are counted from 1 in each, or from --first; a blank line
@@ -55,6 +56,9 @@ None of these names its file.
 FILTER is what may stand behind ? in $[?FILTER]: both @ and $ are the document.
 A QUERY that begins with - is given behind --. It may call two of our own:
 xor(A, B), exactly one of the two is true, and distinct(NODES), each node once.
+
+jp --quote VALUE, with no other word, prints VALUE as a string literal. So what
+a variable of the shell holds can stand in a query, and is no more than a text.
 
 The first faulty line, or document, ends the run. With --keep-going it gives a
 line: its number, a tab, !, a tab, what is wrong with it. In the other forms it

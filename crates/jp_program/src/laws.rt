@@ -16,6 +16,7 @@ ghost use Rattle.jp_run.specs.AskedTexts.{AreAcceptedIn};
 ghost use Rattle.jp_run.specs.Cutting.{documents};
 ghost use Rattle.jp_run.specs.declared.cutting.Cutting.TheVariants as Cutting;
 ghost use Rattle.jp_run.specs.declared.output.Output.TheVariants.{Nodes};
+ghost use Rattle.jp_program.specs.CommandLine.{AsksToQuote};
 ghost use Rattle.jp_program.specs.Inputs.{Course, EachInTurn, EndsIn, Held, Input, Standing, inputs_of};
 ghost use Rattle.jp_program.specs.Inputs.{standard};
 ghost use Rattle.jp_program.specs.Outcome.{AreFailed, ArePassed, HasFailed, IsAnswered, IsFront, IsWhole};
@@ -49,6 +50,11 @@ pub fn query_alone()
 /// what the status tells, and one of settings.
 pub fn one_wish()
     ensures { (words : List (List ℕ)) (v w : Wanted) → Wants words v → Wants words w → v ≡ w }
+{}
+
+/// Words that ask for a literal want nothing else: no query, whatever stands in the place of the text.
+pub fn quoting_stands_alone()
+    ensures { (words : List (List ℕ)) (w : Wanted) → AsksToQuote words → Wants words w → ⊥ }
 {}
 
 /// A name that the command line may have, which is text, is a field: no tab and no line feed is among its

@@ -13,6 +13,7 @@ mod laws;
 mod output;
 mod pattern_notes;
 mod peer_options;
+mod quoting;
 mod split;
 mod turn;
 mod version;

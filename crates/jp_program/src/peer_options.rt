@@ -20,6 +20,10 @@ pub(crate) fn own_way(option: &str) -> Option<&'static str> {
         "-v" | "--invert-match" => Some(
             "documents that a filter is not true of: --where '!(FILTER)'",
         ),
+        "--arg" => Some("a variable in a query: \"@.a==$(jp --quote \"$x\")\""),
+        _ if option == "--quote" || option.starts_with("--quote=") => {
+            Some("it stands alone: jp --quote VALUE")
+        }
         _ => None,
     }
 }

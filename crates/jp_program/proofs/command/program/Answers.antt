@@ -1,6 +1,7 @@
 use Rattle.std.proofs.Common.{◌∙◌, ℕ, List, Option, Err, Some, inl, inr, refl, ap}
 use Rattle.std.proofs.Common.{subst, sym, arith}
 use Rattle.std.proofs.lemmas.Grind.{common_steps}
+use Rattle.clap.specs.Walk.{texts}
 use Rattle.jp_run.specs.Status.{status_of}
 use Rattle.jp_run.specs.declared.fault.RunFault.{RunFault}
 use Rattle.jp_run.specs.declared.fault.RunFault.TheVariants.{Document, Memory}
@@ -9,6 +10,7 @@ use Rattle.jp_program.specs.Inputs.{Course}
 use Rattle.jp_program.specs.Outcome.{IsAnswered, IsFront, IsRefusedWish, IsWholeOrCut, Left}
 use Rattle.jp_program.specs.Told.{IsTold}
 use Rattle.jp_program.proofs.Going.{are_failed_kept}
+use Rattle.jp_program.proofs.NotTaken.{asks_so, not_taken}
 use Rattle.jp_program.proofs.Noted.{refused_as, told_still}
 use Rattle.jp_program.proofs.Ran.{end_so}
 use Rattle.jp_program.proofs.Told.{document_of, end_of, memory_of, of_two}
@@ -16,6 +18,40 @@ use Rattle.jp_program.proofs.Told.{answered_kept, front_kept, kept_from}
 use Rattle.jp_program.proofs.Told.{status_so}
 use Rattle.jp_program.proofs.Turns.{in_weaker}
 use Rattle.jp_program.proofs.command.program.Goals as goal
+
+-- a literal is asked for: nothing else is wanted then
+
+pub returns-in-Some-clause-something : goal.returns-in-Some-clause-something
+returns-in-Some-clause-something g c = λ w zero wants asked known.
+    absurd (not_taken (texts c.args.words.now)
+    (asks_so (texts c.args.words.now) c.value_to_quote.result c.in-Some.value c.value_to_quote.ensures
+    c.in-Some.is) wants.0.0)
+
+pub returns-in-Some-clause-refused : goal.returns-in-Some-clause-refused
+returns-in-Some-clause-refused g c = λ f w wants v.
+    absurd (not_taken (texts c.args.words.now)
+    (asks_so (texts c.args.words.now) c.value_to_quote.result c.in-Some.value c.value_to_quote.ensures
+    c.in-Some.is) wants.0)
+
+pub returns-in-Some-clause-check : goal.returns-in-Some-clause-check
+returns-in-Some-clause-check g c = λ w wants.
+    absurd (not_taken (texts c.args.words.now)
+    (asks_so (texts c.args.words.now) c.value_to_quote.result c.in-Some.value c.value_to_quote.ensures
+    c.in-Some.is) wants.0.0)
+
+pub returns-in-Some-clause-prompt : goal.returns-in-Some-clause-prompt
+returns-in-Some-clause-prompt g c = λ w wants none.
+    absurd (not_taken (texts c.args.words.now)
+    (asks_so (texts c.args.words.now) c.value_to_quote.result c.in-Some.value c.value_to_quote.ensures
+    c.in-Some.is) wants.0.0)
+
+pub returns-in-Some-clause-window : goal.returns-in-Some-clause-window
+returns-in-Some-clause-window g c = λ w wants none.
+    absurd (not_taken (texts c.args.words.now)
+    (asks_so (texts c.args.words.now) c.value_to_quote.result c.in-Some.value c.value_to_quote.ensures
+    c.in-Some.is) wants.0.0)
+
+-- a run, a check or the help
 
 pub returns-clause-query : goal.returns-clause-query
 returns-clause-query g c = λ e.
@@ -83,7 +119,7 @@ returns-clause-failed g c = λ e.
     let holds = g.I.Inputs.holds c.args.inputs.now in
     let first = g.S.Supply.remaining c.args.source.now in
     let d = end_so _ holds first course left _ c.in-Err.fault c.done.result c.in-Err.is
-    (end_of c.in-Err.fault (sym c.status-in-Err.ensures ∙ e)) c.done.ensures.fault in (
+    (end_of c.in-Err.fault (sym c.status-in-Err.ensures ∙ e)) c.done.ensures.fault in inr (
       d.0,
       d.1,
       are_failed_kept d.0 left.rest left.reads left.reads_new left.source_failed left.sink_failed
@@ -132,8 +168,8 @@ returns-clause-check g c = λ w wants.
 
 pub returns-then-not-totals-2-clause-finished : goal.returns-then-not-totals-2-clause-finished
 returns-then-not-totals-2-clause-finished g c = λ e.
-    c.in-Ok.ensures.finished (grind (arith, common_steps, c.if-totals-gt0.false))
+    inr (c.in-Ok.ensures.finished (grind (arith, common_steps, c.if-totals-gt0.false)))
 
 pub returns-in-Ok-clause-finished : goal.returns-in-Ok-clause-finished
 returns-in-Ok-clause-finished g c = λ e.
-    c.in-Ok.ensures.finished (grind (arith, common_steps, c.if-totals-gt0.false))
+    inr (c.in-Ok.ensures.finished (grind (arith, common_steps, c.if-totals-gt0.false)))
