@@ -49,9 +49,24 @@ fn words_of_start(text: &str) -> Option<&'static str> {
     }
 }
 
+/// How the names of files end that are mostly read.
+const FILE_ENDS: [&str; 8] = [
+    ".json", ".jsonl", ".ndjson", ".geojson", ".log", ".txt", ".gz", ".zst",
+];
+
+/// Whether the text is the name of a file, by its end, and no path of another language.
+fn is_file(text: &str) -> bool {
+    let is_name = text.starts_with(|c: char| c.is_alphanumeric() || c == '_' || c == '/');
+    let is_below = text.starts_with("./") || text.starts_with("../");
+    (is_name || is_below) && FILE_ENDS.iter().any(|end| text.ends_with(*end))
+}
+
 /// What helps where no query begins as the text does.
 pub(crate) fn cure_of_start(query: &str) -> Cure<'_> {
     let text = query.trim();
+    if is_file(text) {
+        return Cure::File(text);
+    }
     if let Some(words) = words_of_start(text) {
         return Cure::Words(words);
     }

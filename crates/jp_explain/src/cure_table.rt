@@ -42,6 +42,8 @@ const IN_BRACKETS: &str = "in brackets: $[\"a-b\"]";
 
 const THE_LAST: &str = "the last is [-1]";
 
+const THE_FIRST: &str = "the first is [0]";
+
 const NO_MINUS: &str = "no - before 0: [0]";
 
 const A_QUOTE: &str = "a text with a quote: \"it's\"";
@@ -112,13 +114,15 @@ pub(crate) const OF_PATHS: [Row; 27] = [
 ];
 
 /// Rows for what stands in brackets.
-pub(crate) const OF_BRACKETS: [Row; 22] = [
+pub(crate) const OF_BRACKETS: [Row; 24] = [
     (At::Selector, "[", "]", "all items are [*]"),
     (At::Selector, "[", "*", SEVERAL),
     (At::Selector, "[", "[", "one pair of brackets: [0]"),
     (At::Selector, "[", "(@.length", THE_LAST),
     (At::Selector, "[", "last]", THE_LAST),
-    (At::Selector, "[", "first]", "the first is [0]"),
+    (At::Selector, "[", "last()]", THE_LAST),
+    (At::Selector, "[", "first]", THE_FIRST),
+    (At::Selector, "[", "first()]", THE_FIRST),
     (At::Selector, "[", "(@", A_FILTER),
     (At::Selector, "[", "(!@", A_FILTER),
     (At::Selector, "[", "@", A_FILTER),

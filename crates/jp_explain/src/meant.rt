@@ -23,6 +23,8 @@ pub(crate) enum Cure<'q> {
         dot: &'static str,
         path: &'q str,
     },
+    /// The name of a file in the query's place.
+    File(&'q str),
     /// A name that lacks the dot between that sign and itself.
     Dotted {
         sign: &'static str,
@@ -49,6 +51,14 @@ pub(crate) enum Cure<'q> {
         item: &'q str,
         comparison: &'q str,
     },
+    /// A name at any depth below there, by what is asked of it.
+    Deep {
+        front: &'q str,
+        name: &'q str,
+        comparison: &'q str,
+    },
+    /// A variable of the shell within single quotes.
+    Variable(&'q str),
 }
 
 impl fmt::Display for Cure<'_> {
@@ -77,11 +87,35 @@ impl fmt::Display for Cure<'_> {
                 item,
                 comparison,
             } => { write!(f, "may select several: write {list}[?@{item}{comparison}]") }
+            Cure::Deep {
+                front,
+                name,
+                comparison,
+            } => write!(
+                f,
+                "may select several: write ({front}.{name}{comparison} || {front}..[?@.{name}{comparison}])"
+            ),
+            Cure::File(name) => write!(f, "the query stands before the files: jp '$.a' {name}"),
+            Cure::Variable(name) => write!(
+                f,
+                "a dot before the name: $.{name}; no variable of the shell stands in single quotes"
+            ),
         }
     }
 }
 
-const CALL: Cure<'static> = Cure::Words("a function stands in front, in a filter: length(@.b)>2");
+/// What helps with a function behind a dot.
+fn cure_of_call(name: &str) -> Cure<'static> {
+    let words = match name {
+        "keys" | "key" | "path" | "paths" => "names stand in the paths that are printed",
+        "sum" | "min" | "max" | "avg" | "add" => "nothing is computed in a query",
+        "first" => "the first is [0]",
+        "last" => "the last is [-1]",
+        "length" | "size" | "count" => "a function stands in front, in a filter: length(@.b)>2",
+        _ => "no function stands behind a dot: a pattern is search(@.b,\"x\"), in a filter",
+    };
+    Cure::Words(words)
+}
 
 const SEVERAL: Cure<'static> = Cure::Words("may select several: write @.a[?@.b==\"x\"]");
 
@@ -137,7 +171,7 @@ pub(crate) fn name_in_quotes<'q>(before: &'q str, behind: &'q str) -> Option<Cur
         return None;
     }
     if behind.starts_with('(') && !start.is_empty() {
-        return Some(CALL);
+        return Some(cure_of_call(start));
     }
     let rest = front_of(behind, &NAME_ENDS);
     if rest.is_empty() {
@@ -214,14 +248,36 @@ fn parted(operand: &str) -> Option<(&str, &str)> {
     if is_one { Some(parts) } else { None }
 }
 
+/// A query with one `..`, before which and behind which it selects one node at most, by names behind it.
+fn deepened(operand: &str) -> Option<(&str, &str)> {
+    let (front, name) = operand.split_once("..")?;
+    let is_one = !front.contains(&PLURAL) && !name.contains(&PLURAL) && !name.contains("..");
+    if is_one && !name.starts_with('[') {
+        Some((front, name))
+    } else {
+        None
+    }
+}
+
 /// A filter of the items, in the place of the comparison of them all.
 pub(crate) fn a_test_of_items<'q>(before: &'q str, behind: &'q str) -> Cure<'q> {
-    match (parted(operand_in(before)), comparison_in(behind)) {
-        (Some((list, item)), Some(comparison)) => Cure::Filter {
+    let operand = operand_in(before);
+    let Some(comparison) = comparison_in(behind) else {
+        return SEVERAL;
+    };
+    if let Some((list, item)) = parted(operand) {
+        return Cure::Filter {
             list,
             item,
             comparison,
+        };
+    }
+    match deepened(operand) {
+        Some((front, name)) => Cure::Deep {
+            front,
+            name,
+            comparison,
         },
-        _ => SEVERAL,
+        None => SEVERAL,
     }
 }

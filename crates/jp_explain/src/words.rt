@@ -28,16 +28,23 @@ pub(crate) fn name_behind_sign<'q>(before: &'q str, behind: &'q str) -> Option<C
     if !begins_name(behind) {
         return None;
     }
+    let name = front_of(behind, &NAME_ENDS);
     let sign = match before.chars().next_back()? {
+        '$' if is_compared(before) => return Some(Cure::Variable(name)),
         '$' => "$",
         '@' => "@",
         ']' => "]",
         _ => return None,
     };
-    Some(Cure::Dotted {
-        sign,
-        name: front_of(behind, &NAME_ENDS),
-    })
+    Some(Cure::Dotted { sign, name })
+}
+
+/// Whether the `$` at the end stands behind an operator.
+fn is_compared(before: &str) -> bool {
+    match before.strip_suffix('$') {
+        Some(front) => front.trim_end().ends_with(['=', '<', '>']),
+        None => false,
+    }
 }
 
 /// A text without quotes that begins as a number does, as a date, and is compared.

@@ -33,6 +33,9 @@ impl RunEnd {
     }
 }
 
+/// The line that tells what to do where two queries are given.
+const ONE_QUERY: &str = "jp: a second query? one is run: '$[\"a\",\"b\"]' selects two members\n";
+
 /// A file's name, with escapes for a terminal, and whether it is one of several.
 #[derive(Drop)]
 struct NamedFile {
@@ -40,6 +43,16 @@ struct NamedFile {
     has_others: bool,
     /// Whether it looks like a part of a query.
     asks_for_quotes: bool,
+}
+
+impl NamedFile {
+    /// Whether the name is a whole query by its brackets, where the words have another one that is accepted.
+    fn looks_like_second_query(&self) -> bool {
+        let name = self.name.as_str();
+        let is_query = name.starts_with("$.") || name.starts_with("$[");
+        let opened = name.bytes().filter(|byte| *byte == b'[').count();
+        is_query && opened == name.bytes().filter(|byte| *byte == b']').count()
+    }
 }
 
 /// Tells the fault of a run in one line, which names the file at which it ended, if it is one of several. Of
@@ -140,7 +153,9 @@ fn tell_reason<N: Sink>(alloc: Global, notes: &mut N, file: &NamedFile, reason: 
         Some(reason) => note(notes, format!(in alloc; "jp: {name}: {reason}\n")),
         None => note(notes, format!(in alloc; "jp: {name}\n")),
     }
-    if file.asks_for_quotes {
+    if file.looks_like_second_query() {
+        note_text(notes, ONE_QUERY);
+    } else if file.asks_for_quotes {
         note_text(notes, QUESTION);
     }
 }
