@@ -1,5 +1,6 @@
 -- What may be shared among threads: what a walk is given, and an action at some children.
-use denote.Param.Send.{IsSend, IsSync, recorded_send, struct_send, shr_send, shr_slice_send, sendable}
+use denote.Param.Send.{IsSend, IsSync, recorded_send, recorded_sync, struct_send, shr_send, shr_sync}
+use denote.Param.Send.{shr_slice_sync, sendable}
 use denote.RattleType.{RattleType}
 use denote.Ref.{NamedLft, ShrRef}
 use denote.Slice.{ShrSlice}
@@ -34,17 +35,25 @@ use Rattle.jp_node.specs.contracts.part.Part as Part
 use Rattle.jp_node.specs.contracts.items.Items as Items
 use Rattle.jp_node.specs.contracts.members.MemberRange as MemberRange
 use Rattle.jp_node.specs.contracts.tree.TreeMember as TreeMember
+use Rattle.jp_node.specs.contracts.tree.TreeMembers as TreeMembers
+use Rattle.jp_flat.specs.contracts.value.FlatMembers as FlatMembers
 use Rattle.jp_flat.specs.contracts.value.FlatMember as FlatMember
 use Rattle.jp_node.specs.contracts.children.Child as Child
 use Rattle.jp_node.specs.contracts.child_range.ChildRange as ChildRange
 use Rattle.jp_eval.specs.contracts.walk.Action as Action
 use Rattle.jp_eval.specs.contracts.context.Context as Context
 use Rattle.jp_eval.specs.contracts.split.Splitting as Splitting
+use Rattle.jp_eval.specs.contracts.split.HalfGiven as HalfGiven
 use Rattle.jp_found.specs.contracts.root_answer.RootAnswer as RootAnswer
 use Rattle.jp_found.specs.contracts.different.Different as Different
 use Rattle.jp_found.specs.contracts.found.Alone as Alone
 use Rattle.jp_found.specs.contracts.aggregates.Aggregate as Aggregate
 use Rattle.jp_value.specs.contracts.read_pattern.ReadPattern as ReadPattern
+use Rattle.jp_value.specs.contracts.ordered.Ordered as Ordered
+use Rattle.jp_value.proofs.ordered.Ordered.TheLaws.TheKnot.{crosses as ordered_crosses}
+use Rattle.jp_node.specs.contracts.members.Members as Members
+use Rattle.jp_node.specs.contracts.members.MemberList as MemberList
+use Rattle.jp_node.specs.contracts.part.Kind as Kind
 
 pub segment_sync : IsSync CompiledSegment.the_row
 segment_sync = search (
@@ -165,9 +174,35 @@ pattern_field : (a : NamedLft) → IsSync (ReadPattern.the_field a).row
 pattern_field a = search (dfas.the_field_sync, sets.the_field_sync, crosses, pattern_crosses, sendable)
     depth 60 fits 20000
 
-known_sync : (a : NamedLft) → IsSync (RootAnswer.the_row a)
-known_sync a = search (answer_field, lengths.the_field_sync, pattern_field, crosses, sendable) depth 60
+tree_members : (a : NamedLft) → IsSync (TreeMembers.the_field a).row
+tree_members a = search (numbers.the_field_sync, value_crosses, map_crosses, crosses, sendable) depth 60
     fits 20000
+
+flat_members : (a : NamedLft) → IsSync (FlatMembers.the_field a).row
+flat_members a = search (crosses, sendable) depth 60 fits 20000
+
+members_field : (a : NamedLft) → IsSync (Members.the_field a).row
+members_field a = search (tree_members, flat_members, crosses, sendable) depth 60 fits 20000
+
+list_field : (a : NamedLft) → IsSync (MemberList.the_field a).row
+list_field a = search (tree_member, flat_member, crosses, sendable) depth 60 fits 20000
+
+kind_field : (a : NamedLft) → IsSync (Kind.the_field a).row
+kind_field a = search (items_field, members_field, crosses, sendable) depth 60 fits 20000
+
+ordered_field : (a : NamedLft) → IsSync (Ordered.the_field a).row
+ordered_field a = search (members_field, list_field, kind_field, crosses, ordered_crosses, sendable) depth 60
+    fits 20000
+
+known_sync : (a : NamedLft) → IsSync (RootAnswer.the_row a)
+known_sync a = search (
+  answer_field,
+  lengths.the_field_sync,
+  pattern_field,
+  ordered_field,
+  crosses,
+  sendable,
+) depth 60 fits 20000
 
 pub ground_sync : (a : NamedLft) → IsSync (Context.the_row a)
 ground_sync a = search (part_field, root_sync, known_sync, crosses, sendable) depth 60 fits 20000
@@ -176,24 +211,37 @@ pub splitting_sync : (a v : NamedLft) (R F : RattleType) → IsSync R → IsSync
     → IsSync (Splitting.the_row a v R F)
 splitting_sync a v R F r f = search (ground_sync, cuts.the_field_sync, crosses, sendable) depth 60 fits 20000
 
--- what a half is given: what the walk is given throughout, the action, the range, the links, a visitor
-abbrev pub captured : (R F V : RattleType) (g ga gv t tv s sc sv l lv : NamedLft) → List RattleType
-captured R F V g ga gv t tv s sc sv l lv =
-    ShrRef g.mir g.lft (Splitting.the_row ga gv R F) ∷ ShrRef t.mir t.lft (Action.the_row tv)
-    ∷ ShrRef s.mir s.lft (ChildRange.the_row sc sv) ∷ ShrSlice l.mir l.lft (Link.the_row lv) ∷ V ∷ []
+range_field : (a b : NamedLft) → IsSync (ChildRange.the_field a b).row
+range_field a b = search (items_field, member_range_field, child_sync, crosses, sendable) depth 60 fits 20000
 
-pub captured_send : (name : Sym) (R F V : RattleType) (g ga gv t tv s sc sv l lv : NamedLft) → IsSync R
-    → IsSync F → IsSend V → IsSend (TupleAt name (captured R F V g ga gv t tv s sc sv l lv))
-captured_send name R F V g ga gv t tv s sc sv l lv rs fs vs =
-    let rows = captured R F V g ga gv t tv s sc sv l lv in
+task_field : (a : NamedLft) → IsSync (Action.the_field a).row
+task_field a = search (segment_sync, selector_sync, logical_sync, crosses, sendable) depth 60 fits 20000
+
+half_field : (s a c l v : NamedLft) (R F : RattleType) → IsSync R → IsSync F
+    → IsSync (HalfGiven.the_field s a c l v R F).row
+half_field s a c l v R F r f =
+    let w : IsSync (ShrRef s.mir s.lft (Splitting.the_row a v R F)) =
+    shr_sync s.mir s.lft _ (splitting_sync a v R F r f) in
+    let x : IsSync (ShrSlice l.mir l.lft (Link.the_row v)) =
+    shr_slice_sync l.mir l.lft _ (links.the_sync v) in
+    search (w, x, task_field, range_field, crosses, sendable) depth 60 fits 20000
+
+pub half_sync : (s a c l v : NamedLft) (R F : RattleType) → IsSync R → IsSync F
+    → IsSync (HalfGiven.the_row s a c l v R F)
+half_sync s a c l v R F r f =
+    recorded_sync (HalfGiven.the_field s a c l v R F).row _ _ (HalfGiven.the_type s a c l v R F).to_one
+    (half_field s a c l v R F r f)
+
+-- what the walk of a half is given: all that it asks, and a visitor
+abbrev pub captured : (R F V : RattleType) (h s a c l v : NamedLft) → List RattleType
+captured R F V h s a c l v = ShrRef h.mir h.lft (HalfGiven.the_row s a c l v R F) ∷ V ∷ []
+
+pub captured_send : (name : Sym) (R F V : RattleType) (h s a c l v : NamedLft) → IsSync R → IsSync F
+    → IsSend V → IsSend (TupleAt name (captured R F V h s a c l v))
+captured_send name R F V h s a c l v rs fs vs =
+    let rows = captured R F V h s a c l v in
     recorded_send (field_at name rows).row _ _ (type_at name rows).to_one
     (struct_send (shape (type_at name rows)) (
-      shr_send g.mir g.lft _ (splitting_sync ga gv R F rs fs),
-      (
-        shr_send t.mir t.lft _ (task_sync tv),
-        (
-          shr_send s.mir s.lft _ (range_sync sc sv),
-          (shr_slice_send l.mir l.lft _ (links.the_sync lv), (vs, tt)),
-        ),
-      ),
+      shr_send h.mir h.lft _ (half_sync s a c l v R F rs fs),
+      (vs, tt),
     ))

@@ -8,7 +8,7 @@ ghost use Rattle.jp_node.specs.Part.{part_value};
 use jp_compiled::{CompiledLogical, Giver, Nodes, RootPart, Want};
 use jp_found::{Aggregate, Length, RootAnswer, is_result_of, of_one};
 use jp_node::{Kind, Part};
-use jp_value::ReadPattern;
+use jp_value::{Ordered, ReadPattern};
 use std::alloc::{AllocError, Global};
 
 /// What a walk is given throughout: the document, and the answers to what filters ask of it alone, which are
@@ -41,6 +41,7 @@ impl<'v> Context<'v> {
     ghost use Rattle.jp_eval.specs.inner.Walk.{is_true, value_given, nodes_given};
     ghost use Rattle.jp_found.specs.RootAnswers.{IsLength};
     ghost use Rattle.jp_value.specs.Kinds.{given_value};
+    ghost use Rattle.jp_value.specs.Ordered.{ordered_value};
     ghost use Rattle.jp_eval.specs.inner.Rooted.{is_answer};
     ghost use Rattle.jp_eval.specs.Nodelist.{nodelist, holds};
     ghost use Rattle.jp_value.specs.RightTests.{tests};
@@ -174,6 +175,17 @@ impl<'v> Context<'v> {
     {
         match self.known(giver) {
             Some(known) => known.pattern(),
+            None => None,
+        }
+    }
+
+    /// The value of the `$` query which gives it, its members in order, if it is kept.
+    pub(crate) fn ordered(&self, giver: &Giver) -> Option<&Ordered<'v>>
+        ensures { IfSome result (λ o. (n : Node)
+            → value_given (base_of self.now) giver.now n ≡ Some (ordered_value o.now)) }
+    {
+        match self.known(giver) {
+            Some(known) => known.ordered(),
             None => None,
         }
     }

@@ -34,6 +34,17 @@ pub(crate) struct Splitting<'a, 'v, R, F> {
     pub(crate) cuts: Cuts,
 }
 
+/// What a half is given.
+// In one struct, where all that is lent has one lifetime: of what each closure of `each_of` takes alone it is
+// not known to have.
+#[derive(Drop)]
+pub(crate) struct HalfGiven<'s, 'a, 'c, 'l, 'v, R, F> {
+    splitting: &'s Splitting<'a, 'v, R, F>,
+    action: Action<'v>,
+    children: ChildRange<'c, 'v>,
+    at: &'l [Link<'v>],
+}
+
 /// The action at the value, where a list inside of it may be cut.
 #[cycle(split)]
 pub(crate) fn go_split<'v, R: Threads + Sync, F: Fork + Sync, V: Visit + Drop + Send>(
@@ -138,27 +149,37 @@ fn each_of<'v, R: Threads + Sync, F: Fork + Sync, V: Visit + Drop + Send>(
     let mine = fresh(found, splitting.context.alloc);
     let other = fresh(found, splitting.context.alloc);
     let at = path.links();
+    let one = HalfGiven {
+        splitting: &further,
+        action,
+        children: left,
+        at,
+    };
+    let two = HalfGiven {
+        children: right,
+        ..one
+    };
     let (first, second) = join(
         splitting.rt,
         || -> Result<V, AllocError>
             requires { IsSync R.row × IsSync F.row }
             ensures { IfOk result (λ t. taken (V.kept t)
                 ≡ plus (put_found V.put) (taken (V.kept mine))
-                (flat_map (done (base_of further.entry.context.now) action.entry)
-                (range_nodes (link_steps at.entry.now) left.entry))) }
+                (flat_map (done (base_of one.entry.splitting.now.context.now) one.entry.action)
+                (range_nodes (link_steps one.entry.at.now) one.entry.children))) }
         {
-            further.fork.half(0);
-            half(&further, action, left, at, mine)
+            one.splitting.fork.half(0);
+            half(&one, mine)
         },
         || -> Result<V, AllocError>
             requires { IsSync R.row × IsSync F.row }
             ensures { IfOk result (λ t. taken (V.kept t)
                 ≡ plus (put_found V.put) (taken (V.kept other))
-                (flat_map (done (base_of further.entry.context.now) action.entry)
-                (range_nodes (link_steps at.entry.now) right.entry))) }
+                (flat_map (done (base_of two.entry.splitting.now.context.now) two.entry.action)
+                (range_nodes (link_steps two.entry.at.now) two.entry.children))) }
         {
-            further.fork.half(1);
-            half(&further, action, right, at, other)
+            two.splitting.fork.half(1);
+            half(&two, other)
         },
     );
     append(found, first?)?;
@@ -168,19 +189,22 @@ fn each_of<'v, R: Threads + Sync, F: Fork + Sync, V: Visit + Drop + Send>(
 /// The action at each of the children of a half, for a visitor of its own.
 #[cycle(split)]
 fn half<'v, R: Threads + Sync, F: Fork + Sync, V: Visit + Drop + Send>(
-    splitting: &Splitting<'_, 'v, R, F>,
-    action: Action<'v>,
-    children: ChildRange<'_, 'v>,
-    at: &[Link<'v>],
+    given: &HalfGiven<'_, '_, '_, '_, 'v, R, F>,
     visitor: V,
 ) -> Result<V, AllocError>
     ensures { IfOk result (λ t. taken (V.kept t) ≡ plus (put_found V.put) (taken (V.kept visitor))
-        (flat_map (done (base_of splitting.now.context.now) action.entry)
-        (range_nodes (link_steps at.now) children.entry))) }
+        (flat_map (done (base_of given.now.splitting.now.context.now) given.now.action)
+        (range_nodes (link_steps given.now.at.now) given.now.children))) }
 {
-    let mut path = path_stack_of(splitting.context.alloc, at)?;
+    let mut path = path_stack_of(given.splitting.context.alloc, given.at)?;
     let mut found = Found::Visitor(visitor);
-    each_of(splitting, action, children, &mut path, &mut found)?;
+    each_of(
+        given.splitting,
+        given.action,
+        given.children,
+        &mut path,
+        &mut found,
+    )?;
     Ok(visitor_of(found))
 }
 

@@ -6,6 +6,7 @@ ghost use Rattle.jp_doc.specs.Height.{height};
 ghost use Rattle.jp_doc.specs.Location.{Location, node};
 ghost use Rattle.jp_node.specs.Links.{link_steps};
 ghost use Rattle.jp_node.specs.Part.{part_value};
+ghost use Rattle.jp_value.specs.Comparison.{compared};
 ghost use Rattle.jp_value.specs.Kinds.{given_value};
 ghost use Rattle.jp_found.specs.Aggregates.{tells};
 ghost use Rattle.jp_eval.specs.inner.Finding.{Finds};
@@ -30,9 +31,10 @@ use jp_node::{
     Child, ChildRange, Items, Kind, Link, MemberRange, Part, PathStack, Visit, children_of,
     first_item, member_at, place_in, sliced,
 };
+use jp_tree::Operator;
 use jp_value::{
-    bounds_of, compare_kinds, exactly_one, length, literal, matches, matches_known, matches_read,
-    searches, searches_known, searches_read,
+    bounds_of, compare_kinds, compare_ordered, exactly_one, length, literal, matches,
+    matches_known, matches_read, searches, searches_known, searches_read, turned,
 };
 use std::alloc::AllocError;
 
@@ -407,8 +409,7 @@ pub(crate) fn holds<'v, V: Visit + Drop>(
         CompiledLogical::All(parts) => all::<V>(context, parts.as_slice(), value, path),
         CompiledLogical::Not(part) => Ok(!holds::<V>(context, part, value, path)?),
         CompiledLogical::Compare(left, operator, right) => {
-            let (left, right) = give_both::<V>(context, left, right, value, path)?;
-            compare_kinds(context.alloc, *operator, left, right)
+            compare::<V>(context, left, *operator, right, value, path)
         }
         CompiledLogical::Test(nodes) => {
             let answer = ask::<V>(context, Want::First, nodes, value, path)?;
@@ -484,6 +485,33 @@ fn all<'v, V: Visit + Drop>(
         }
     }
     Ok(true)
+}
+
+/// Whether the comparison is true. The members of a `$` value are in order where it is kept so.
+#[cycle(walk)]
+fn compare<'v, V: Visit + Drop>(
+    context: &Context<'v>,
+    left: &'v Giver,
+    operator: Operator,
+    right: &'v Giver,
+    value: Part<'v>,
+    path: &mut PathStack<'v>,
+) -> Result<bool, AllocError>
+    ensures truth { IfOk result (λ b. b ≡ compared operator
+        (value_given (base_of context.now) left.now (here path.old value.entry))
+        (value_given (base_of context.now) right.now (here path.old value.entry))) }
+    ensures path { OnOk result (path.new ≡ path.old) }
+{
+    if let Some(ordered) = context.ordered(right) {
+        let given = give::<V>(context, left, value, path)?;
+        return compare_ordered(context.alloc, operator, given, ordered);
+    }
+    if let Some(ordered) = context.ordered(left) {
+        let given = give::<V>(context, right, value, path)?;
+        return compare_ordered(context.alloc, turned(operator), given, ordered);
+    }
+    let (left, right) = give_both::<V>(context, left, right, value, path)?;
+    compare_kinds(context.alloc, operator, left, right)
 }
 
 /// The two values that stand there, or nothing.

@@ -99,10 +99,11 @@ one_by_one-returns-clause-found g t c =
 
 pub half-returns : goal.half-returns
 half-returns g t c =
-    let base = base_of c.args.splitting.now.context.now in
+    let given = c.args.given.now in
+    let base = base_of given.splitting.now.context.now in
     c.visitor_of.ensures ∙ c.in_ok-each_of.ensures.found
     ∙ ap (λ ls. plus (put_found g.V.Visit.put) (taken (g.V.Visit.kept c.args.visitor))
-    (flat_map (done base c.args.action) (range_nodes (link_steps ls) c.args.children)))
+    (flat_map (done base given.action) (range_nodes (link_steps ls) given.children)))
     c.in_ok-path.ensures
 
 pub half-visitor_of-requires : goal.half-visitor_of-requires
@@ -150,17 +151,13 @@ each_of-join-first-requires-send-F g t c κs within =
     let r : IsSync (param 0 g.row.R) = search rules in
     let f : IsSync (param 1 g.row.F) = search rules in
     let v : IsSend (param 2 g.row.V) = search rules in
-    let sent = captured_send (tuple_name 5) (param 0 g.row.R) (param 1 g.row.F) (param 2 g.row.V)
+    let sent = captured_send (tuple_name 2) (param 0 g.row.R) (param 1 g.row.F) (param 2 g.row.V)
     (record { mir = named 6; lft = κs.1.1.1.1.1.1.0 })
     (record { mir = named 7; lft = κs.1.1.1.1.1.1.1.0 })
     (record { mir = named 8; lft = κs.1.1.1.1.1.1.1.1.0 })
     (record { mir = named 9; lft = κs.1.1.1.1.1.1.1.1.1.0 })
     (record { mir = named 10; lft = κs.1.1.1.1.1.1.1.1.1.1.0 })
-    (record { mir = named 11; lft = κs.1.1.1.1.1.1.1.1.1.1.1.0 })
-    (record { mir = named 12; lft = κs.1.1.1.1.1.1.1.1.1.1.1.1.0 })
-    (record { mir = named 13; lft = κs.1.1.1.1.1.1.1.1.1.1.1.1.1.0 })
-    (record { mir = named 14; lft = κs.1.1.1.1.1.1.1.1.1.1.1.1.1.1.0 })
-    (record { mir = named 15; lft = κs.1.1.1.1.1.1.1.1.1.1.1.1.1.1.1.0 }) r f v in
+    (record { mir = named 11; lft = κs.1.1.1.1.1.1.1.1.1.1.1.0 }) r f v in
     param_send 1 (lts.arg-6-1 g.row.R g.row.F g.row.V g.R.laws g.F.laws g.V.laws g.R.Threads-dict
     g.F.Fork-dict g.V.Visit-dict g.V.Destruct-dict κs)
-    (record { owned = sent.owned; leaving = λ k x w. (tt, (tt, (tt, (tt, (tt, tt))))) })
+    (record { owned = sent.owned; leaving = λ k x w. (tt, (tt, tt)) })

@@ -28,13 +28,13 @@ abbrev pub decreases-each_of : goal.decreases-each_of
 decreases-each_of g l = weight (range_height l.children) l.splitting.now.cuts.left 10
 
 abbrev pub decreases-each_of-join+arg2 : goal.decreases-each_of-join+arg2
-decreases-each_of-join+arg2 g l = weight (range_height l.left) l.further.cuts.left 13
+decreases-each_of-join+arg2 g l = weight (range_height l.one.children) l.one.splitting.now.cuts.left 13
 
 abbrev pub decreases-each_of-join+arg3 : goal.decreases-each_of-join+arg3
-decreases-each_of-join+arg3 g l = weight (range_height l.right) l.further.cuts.left 13
+decreases-each_of-join+arg3 g l = weight (range_height l.two.children) l.two.splitting.now.cuts.left 13
 
 abbrev pub decreases-half : goal.decreases-half
-decreases-half g l = weight (range_height l.children) l.splitting.now.cuts.left 12
+decreases-half g l = weight (range_height l.given.now.children) l.given.now.splitting.now.cuts.left 12
 
 abbrev pub decreases-one_by_one : goal.decreases-one_by_one
 decreases-one_by_one g l = weight (range_height l.children) l.splitting.now.cuts.left 7

@@ -1,5 +1,5 @@
 use Rattle.std.proofs.Common.{◌≡◌, ◌<◌, [], ◌∷◌, ◌++◌, length, not, true, false}
-use Rattle.std.proofs.Common.{w64, Some, None, is_some, option_map, option_to_list, arith}
+use Rattle.std.proofs.Common.{w64, Some, None, is_some, option_map, arith}
 use Rattle.std.proofs.Common.{sym, ap, ap₂, ◌∙◌}
 use Rattle.std.proofs.Common.{rules}
 use mir.Val.{SFits}
@@ -17,7 +17,6 @@ use Rattle.jp_compiled.specs.declared.query.Want.TheVariants as want
 use Rattle.jp_found.specs.Aggregates.{tells}
 use Rattle.jp_eval.specs.inner.Base.{base_of}
 use Rattle.jp_node.specs.BoundsView.{bounds_value}
-use Rattle.jp_value.specs.Comparison.{compared}
 use Rattle.jp_value.specs.Functions.{tested, length_value}
 use Rattle.jp_value.specs.Functions.{exactly_one}
 use Rattle.jp_node.specs.ChildNodes.{listed_nodes}
@@ -43,7 +42,7 @@ use Rattle.jp_node.proofs.Places.{slice_found}
 use Rattle.jp_eval.proofs.Uniformity.{true_along, false_along, kept_each}
 use Rattle.jp_node.specs.Selected.{index_places}
 use Rattle.jp_eval.proofs.WalkSteps.{back_up, here_further, link_further, over, applied, descended}
-use Rattle.jp_eval.proofs.WalkSteps.{any_further, any_found, all_further, all_found, none_at, one_at}
+use Rattle.jp_eval.proofs.WalkSteps.{any_further, any_found, all_further, all_found}
 use Rattle.jp_eval.proofs.walk.+walk.Goals as goal
 
 pub apply-loop-selector-preserved : goal.apply-loop-selector-preserved
@@ -478,15 +477,14 @@ holds-returns-in_ok-text-in-Search-clause-truth g t c =
     ∙ sym (ap (λ l. is_true base l n) c.in-Search.is
     ∙ true_search base n c.in-Search.text c.in-Search.pattern)) c.searches.ensures
 
-pub holds-returns-in_ok-left-in-Compare-clause-truth : goal.holds-returns-in_ok-left-in-Compare-clause-truth
-holds-returns-in_ok-left-in-Compare-clause-truth g t c =
+pub holds-returns-in-Compare-clause-truth : goal.holds-returns-in-Compare-clause-truth
+holds-returns-in-Compare-clause-truth g t c =
     let base = base_of c.args.context.now in
     let n = here c.args.path.now c.args.value in
-    IfOk-weaker c.compare_kinds.result _ _ (λ b e. e
-    ∙ ap₂ (compared c.in-Compare.operator) c.in_ok-left-in-Compare.ensures.left
-    c.in_ok-left-in-Compare.ensures.right ∙ sym (ap (λ l. is_true base l n) c.in-Compare.is
+    IfOk-weaker c.compare.result _ _ (λ b e. e
+    ∙ sym (ap (λ l. is_true base l n) c.in-Compare.is
     ∙ true_compare base n c.in-Compare.left c.in-Compare.operator c.in-Compare.right))
-    c.compare_kinds.ensures
+    c.compare.ensures.truth
 
 pub holds-returns-in_ok-text-in-MatchRead-clause-truth
     : goal.holds-returns-in_ok-text-in-MatchRead-clause-truth

@@ -75,6 +75,9 @@ decreases-at_child g l = weight (task_size l.action) (l.child.part) 10
 abbrev pub decreases-ask : goal.decreases-ask
 decreases-ask g l = weight (size-Nodes l.nodes.now) l.value 7
 
+abbrev pub decreases-compare : goal.decreases-compare
+decreases-compare g l = weight (max (size-Giver l.left.now) (size-Giver l.right.now)) l.value 9
+
 abbrev pub decreases-give_both : goal.decreases-give_both
 decreases-give_both g l = weight (max (size-Giver l.left.now) (size-Giver l.right.now)) l.value 8
 
