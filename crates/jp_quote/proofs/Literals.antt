@@ -69,9 +69,11 @@ quoted_alone t behind f rest x h (text_literal front v (quoted quote w value q p
     same_front quote w value t behind rest q ps h e
 quoted_alone t behind f rest x h (number_literal n (number r s u (whole_int v zero_int) y z)) e =
     absurd (other_head 48 _ _ refl e)
-quoted_alone t behind f rest x h (number_literal n (number r s u (whole_int v (positive_int c d p k)) y z)) e =
+quoted_alone t behind f rest x h (number_literal n (number r s u (whole_int v (positive_int c d p k)) y z))
+    e =
     absurd (other_head c _ _ (digit_head c p) e)
-quoted_alone t behind f rest x h (number_literal n (number r s u (whole_int v (negative_int c d p k)) y z)) e =
+quoted_alone t behind f rest x h (number_literal n (number r s u (whole_int v (negative_int c d p k)) y z))
+    e =
     absurd (other_head 45 _ _ refl e)
 quoted_alone t behind f rest x h (number_literal n (number r s u minus_zero y z)) e =
     absurd (other_head 45 _ _ refl e)
