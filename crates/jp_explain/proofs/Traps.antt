@@ -12,6 +12,8 @@ use Rattle.jp_compiled.specs.declared.known.KnownPattern.{KnownPattern}
 use Rattle.jp_compiled.proofs.PatternSets.{read_had}
 use Rattle.jp_check.specs.Known.{known_texts}
 use Rattle.jp_explain.specs.PatternNotes.{IsPattern, HasAnchor, IsTrap, IsRightTrap, AreNotes, told, last_or}
+use Rattle.jp_explain.specs.Slashes.{HasSlashes, slash_next, slashes_from}
+use Rattle.jp_explain.specs.declared.slashes.Slashes.{Slashes}
 use Rattle.jp_explain.specs.declared.pattern_note.PatternNote.{PatternNote}
 
 pub last_pushed : (d : ℕ) (t : Text) (c : ℕ) → last_or d (t ++ c ∷ []) ≡ c
@@ -37,10 +39,17 @@ pub known_is_none : (k : KnownPattern) → is_some k.pattern ≡ false → IsPat
 known_is_none k some = read_is_none arc_value (text_of k.text) k.pattern
     (read_had (text_of k.text) (option_map arc_value k.pattern) k.read) some
 
--- a pattern without anchors is no trap
-pub no_trap : (t : Text) → IsPattern t → (HasAnchor t → ⊥) → IsTrap t → ⊥
-no_trap t p bare (inl other) = other p
-no_trap t p bare (inr anchor) = bare anchor
+-- a pattern without anchors and slashes is no trap
+pub no_trap : (t : Text) → IsPattern t → (HasAnchor t → ⊥) → (HasSlashes t → ⊥) → IsTrap t → ⊥
+no_trap t p bare unslashed (inl other) = other p
+no_trap t p bare unslashed (inr (inl anchor)) = bare anchor
+no_trap t p bare unslashed (inr (inr slashes)) = unslashed slashes
+
+-- how far a text comes with one character more
+pub slashes_pushed : (s : Slashes) (t : Text) (c : ℕ)
+    → slashes_from s (t ++ c ∷ []) ≡ slash_next (slashes_from s t) c
+slashes_pushed s [] c = refl
+slashes_pushed s (x ∷ t) c = slashes_pushed (slash_next s x) t c
 
 -- a note behind others
 pub told_of : (ts : List Text) (ns ms : List PatternNote) (n : PatternNote) (t : Text) → text_of n.pattern ≡ t

@@ -6,7 +6,8 @@ use Rattle.jp_pattern.specs.Pattern.{Pattern}
 use Rattle.jp_pattern.specs.Profile.{IsPatternOf}
 use Rattle.jp_explain.specs.declared.pattern_note.PatternNote.{PatternNote}
 use Rattle.jp_explain.specs.declared.pattern_note.Trap.{Trap}
-use Rattle.jp_explain.specs.declared.pattern_note.Trap.TheVariants.{NoPattern, Anchors}
+use Rattle.jp_explain.specs.declared.pattern_note.Trap.TheVariants.{NoPattern, Slashed, Anchors}
+use Rattle.jp_explain.specs.Slashes.{HasSlashes}
 
 -- the text is an I-Regexp within the limits (RFC 9485, 3 and 8)
 abbrev pub IsPattern : Text → Type 0
@@ -27,13 +28,15 @@ last_or d (c ∷ t) = last_or c t
 abbrev pub HasAnchor : Text → Type 0
 HasAnchor t = (first_or 0 t ≡ 0x5e) ⊎ (last_or 0 t ≡ 0x24)
 
--- the text is no I-Regexp within the limits, and so matches nothing (RFC 9535, 2.4.6), or has such anchors
+-- the text is no I-Regexp within the limits, and so matches nothing (RFC 9535, 2.4.6), or has such anchors, or
+-- stands between slashes, which are for themselves too
 abbrev pub IsTrap : Text → Type 0
-IsTrap t = (¬ (IsPattern t)) ⊎ HasAnchor t
+IsTrap t = (¬ (IsPattern t)) ⊎ HasAnchor t ⊎ HasSlashes t
 
 -- what is told of the text is right, and what is told to be written in its place is an I-Regexp
 abbrev pub IsRightTrap : Text → Trap → Type 0
 IsRightTrap t (NoPattern plain) = (¬ (IsPattern t)) × IfSome plain (λ s. IsPattern (text_of s))
+IsRightTrap t (Slashed plain) = IsPattern t × HasSlashes t × IfSome plain (λ s. IsPattern (text_of s))
 IsRightTrap t Anchors = IsPattern t × HasAnchor t
 
 -- The notes of texts, in their order: none of a text that is no trap, and of each that is one a note of this

@@ -142,7 +142,16 @@ pub(crate) const OF_BRACKETS: [Row; 24] = [
 ];
 
 /// Rows for what stands behind a query or a test of a filter.
-pub(crate) const OF_TESTS: [Row; 40] = [
+pub(crate) const OF_TESTS: [Row; 49] = [
+    (At::Test, "", "≥", "≥ is >="),
+    (At::Test, "≥", "", "≥ is >="),
+    (At::Test, "≥ ", "", "≥ is >="),
+    (At::Test, "", "≤", "≤ is <="),
+    (At::Test, "≤", "", "≤ is <="),
+    (At::Test, "≤ ", "", "≤ is <="),
+    (At::Test, "", "≠", "≠ is !="),
+    (At::Test, "≠", "", "≠ is !="),
+    (At::Test, "≠ ", "", "≠ is !="),
     (At::Test, "", "and ", "and is &&"),
     (At::Test, "", "AND ", "AND is &&"),
     (At::Test, "", "or ", "or is ||"),

@@ -19,7 +19,9 @@ mod meant;
 mod pattern_note;
 mod picture;
 mod plain_pattern;
+mod query_note;
 mod sizes;
+mod slashes;
 mod words;
 
 pub use document_picture::write_document_mark;
@@ -30,3 +32,5 @@ pub use line_helping::{document_help, help_with_document, help_with_line, line_h
 pub use line_picture::write_line_mark;
 pub use pattern_note::{PatternNote, Trap, pattern_notes, write_pattern_note};
 pub use picture::write_mark;
+pub use query_note::{QueryNotes, query_notes};
+pub use slashes::Slashes;

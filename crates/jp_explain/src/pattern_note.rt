@@ -14,6 +14,7 @@ ghost use Rattle.jp_explain.specs.PatternNotes.{first_or, last_or};
 use crate::line::PlainLine;
 use crate::plain_pattern::plain_pattern;
 use crate::sizes::PATTERN_CHARACTERS;
+use crate::slashes::has_slashes;
 use jp_check::Plan;
 use jp_compiled::KnownPattern;
 use jp_regexp::Pattern;
@@ -26,6 +27,9 @@ pub enum Trap {
     /// It is no I-Regexp within the limits (RFC 9485), so it matches nothing. With one to be written in its
     /// place, where that is known.
     NoPattern(Option<String>),
+    /// It stands between slashes, which stand for themselves, as the letters behind them do. With one to be
+    /// written in its place, where that is known.
+    Slashed(Option<String>),
     /// It begins with `^` or ends with `$`, which stand for themselves (RFC 9485, 3).
     Anchors,
 }
@@ -76,7 +80,7 @@ fn is_pattern(known: &KnownPattern) -> bool
     known.pattern.is_some()
 }
 
-/// A pattern in the place of the text, which is none.
+/// A pattern in the place of the text, which is none, or stands between slashes.
 fn pattern_in_place(alloc: Global, text: &str) -> Result<Option<String>, AllocError>
     ensures { IfOk result (λ o. IfSome o (λ s. IsPattern (text_of s))) }
 {
@@ -97,6 +101,10 @@ fn trap_of(alloc: Global, known: &KnownPattern) -> Result<Option<Trap>, AllocErr
     if !is_pattern(known) {
         let plain = pattern_in_place(alloc, known.text.as_str())?;
         return Ok(Some(Trap::NoPattern(plain)));
+    }
+    if has_slashes(known.text.as_str()) {
+        let plain = pattern_in_place(alloc, known.text.as_str())?;
+        return Ok(Some(Trap::Slashed(plain)));
     }
     if has_anchor(known.text.as_str()) {
         return Ok(Some(Trap::Anchors));
@@ -122,8 +130,8 @@ fn add_note(
 }
 
 /// What is to be told of the literal patterns of an accepted query, the texts that stand in it as second
-/// arguments of `match` and `search`: of those that are no I-Regexps, and of those with anchors, in the order
-/// of the query.
+/// arguments of `match` and `search`: of those that are no I-Regexps, of those between slashes, and of those
+/// with anchors, in the order of the query.
 ///
 /// # Errors
 ///
@@ -156,6 +164,27 @@ fn push_literal(line: &mut PlainLine, text: &str) -> Result<(), AllocError> {
     line.push_text("\"")
 }
 
+/// What stands before the pattern.
+fn words_before(trap: &Trap) -> &'static str {
+    match trap {
+        Trap::NoPattern(_) => "",
+        Trap::Slashed(_) => "the slashes stand for themselves in ",
+        Trap::Anchors => "^ and $ stand for themselves in ",
+    }
+}
+
+/// What stands behind it, before what is to be written in its place.
+fn words_behind(trap: &Trap) -> &'static str {
+    match trap {
+        Trap::NoPattern(Some(_)) => " is no pattern of RFC 9485, so it matches nothing",
+        Trap::NoPattern(None) => {
+            " is no pattern of RFC 9485 within the limits, so it matches nothing"
+        }
+        Trap::Slashed(_) => "",
+        Trap::Anchors => ": match is of the whole text, search of a part",
+    }
+}
+
 /// A line for a terminal that tells the note, with no line feed: the pattern as a literal of a query in
 /// double quotes, why it may not match what was meant, and what is to be written in its place, where that is
 /// known.
@@ -168,21 +197,12 @@ pub fn write_pattern_note(alloc: Global, note: &PatternNote) -> Result<String, A
     ensures { IfOk result (λ s. is_shown (text_of s) ≡ true) }
 {
     let mut line = PlainLine::new(alloc);
-    if matches!(&note.trap, Trap::Anchors) {
-        line.push_text("^ and $ stand for themselves in ")?;
-    }
+    line.push_text(words_before(&note.trap))?;
     push_literal(&mut line, note.pattern.as_str())?;
-    match &note.trap {
-        Trap::NoPattern(Some(plain)) => {
-            line.push_text(" is no pattern of RFC 9485, so it matches nothing: ")?;
-            push_literal(&mut line, plain.as_str())?;
-        }
-        Trap::NoPattern(None) => {
-            line.push_text(" is no pattern of RFC 9485 within the limits, so it matches nothing")?;
-        }
-        Trap::Anchors => {
-            line.push_text(": match is of the whole text, search of a part")?;
-        }
+    line.push_text(words_behind(&note.trap))?;
+    if let Trap::NoPattern(Some(plain)) | Trap::Slashed(Some(plain)) = &note.trap {
+        line.push_text(": ")?;
+        push_literal(&mut line, plain.as_str())?;
     }
     Ok(line.into_text())
 }

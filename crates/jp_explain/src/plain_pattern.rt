@@ -1,5 +1,6 @@
 //! Patterns of other engines in the words of RFC 9485.
 
+use crate::slashes::is_flag;
 use std::alloc::{AllocError, Global};
 
 /// What an escape of other engines is outside of a class (RFC 9485, 3).
@@ -140,6 +141,21 @@ fn without_anchors(characters: &[char]) -> &[char] {
     }
 }
 
+/// What stands between two slashes, and the letters behind them; else the text itself, and none.
+fn without_slashes(text: &str) -> (&str, &str) {
+    let Some(rest) = text.strip_prefix('/') else {
+        return (text, "");
+    };
+    let Some((inside, flags)) = rest.split_once('/') else {
+        return (text, "");
+    };
+    let is_slashed = !inside.is_empty() && flags.chars().all(|c| is_flag(c));
+    match is_slashed {
+        true => (inside, flags),
+        false => (text, ""),
+    }
+}
+
 /// The text with each letter of ASCII in both cases; none where it has escapes or classes.
 fn in_either_case(alloc: Global, characters: &[char]) -> Result<Option<String>, AllocError> {
     let mut text = String::new(alloc);
@@ -159,11 +175,15 @@ fn in_either_case(alloc: Global, characters: &[char]) -> Result<Option<String>, 
     Ok(Some(text))
 }
 
-/// What a pattern of other engines is in plain words, without its anchors; none where something in it has no
+/// What a pattern of other engines is in plain words, without its slashes and anchors; none where something in it has no
 /// such words. Whether it is an I-Regexp is not said.
 pub(crate) fn plain_pattern(alloc: Global, text: &str) -> Result<Option<String>, AllocError> {
-    let characters: Vec<char> = text.chars().collect(alloc)?;
+    let (between, flags) = without_slashes(text);
+    let characters: Vec<char> = between.chars().collect(alloc)?;
     let inside = without_anchors(&characters);
+    if flags.contains('i') {
+        return in_either_case(alloc, inside);
+    }
     if let ['(', '?', 'i', ')', letters @ ..] = inside {
         return in_either_case(alloc, without_anchors(letters));
     }

@@ -25,7 +25,7 @@ use crate::command_line::{Invocation, read_words};
 use crate::each::answer_files;
 use crate::file_notes::RunEnd;
 use crate::inputs::Inputs;
-use crate::pattern_notes::tell_prepared_patterns;
+use crate::pattern_notes::tell_prepared;
 use crate::quoting::{print_literal, value_to_quote};
 use crate::turn::{Search, run_named};
 use crate::witness::Witness;
@@ -309,7 +309,7 @@ fn done<R: Threads + AllocGlobal + Sync, S: Source<K>, I: Inputs<S>, K: Sink, N:
             let numbers = wanted.settings.numbers;
             let filter = wanted.settings.filter;
             let prepared = Prepared::new(rt.alloc(), wanted.query, filter, numbers)?;
-            tell_prepared_patterns(rt.alloc(), notes, &prepared, filter);
+            tell_prepared(rt.alloc(), notes, &prepared, wanted.query, filter);
             if wanted.check {
                 return Ok(NOTHING_SEEN);
             }
