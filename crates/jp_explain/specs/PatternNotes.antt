@@ -28,8 +28,8 @@ last_or d (c ∷ t) = last_or c t
 abbrev pub HasAnchor : Text → Type 0
 HasAnchor t = (first_or 0 t ≡ 0x5e) ⊎ (last_or 0 t ≡ 0x24)
 
--- the text is no I-Regexp within the limits, and so matches nothing (RFC 9535, 2.4.6), or has such anchors, or
--- stands between slashes, which are for themselves too
+-- the text is no I-Regexp within the limits, and so matches nothing (RFC 9535, 2.4.6), or has such anchors,
+-- or stands between slashes with such letters behind, which are for themselves too
 abbrev pub IsTrap : Text → Type 0
 IsTrap t = (¬ (IsPattern t)) ⊎ HasAnchor t ⊎ HasSlashes t
 

@@ -2,7 +2,7 @@
 use Rattle.std.specs.Prelude.{ℕ, ◌≡◌, if◌then◌else◌, ◌==◌, ◌||◌, Bool, [], ◌∷◌}
 use Rattle.jp_tree.specs.Tree.{Text}
 use Rattle.jp_explain.specs.declared.slashes.Slashes.{Slashes}
-use Rattle.jp_explain.specs.declared.slashes.Slashes.TheVariants.{Start, Opened, Inside, Closed, Other}
+use Rattle.jp_explain.specs.declared.slashes.Slashes.TheVariants.{Start, Opened, Inside, Closed, Flagged, Other}
 
 -- a letter that other languages write behind the second slash: one of g, i, m, s, u, x and y
 abbrev pub is_flag : ℕ → Bool
@@ -13,7 +13,8 @@ abbrev pub slash_next : Slashes → ℕ → Slashes
 slash_next Start c = if c == 0x2f then Opened else Other
 slash_next Opened c = if c == 0x2f then Other else Inside
 slash_next Inside c = if c == 0x2f then Closed else Inside
-slash_next Closed c = if is_flag c then Closed else Other
+slash_next Closed c = if is_flag c then Flagged else Other
+slash_next Flagged c = if is_flag c then Flagged else Other
 slash_next Other c = Other
 
 -- how far a text comes from there
@@ -21,6 +22,7 @@ abbrev pub slashes_from : Slashes → Text → Slashes
 slashes_from s [] = s
 slashes_from s (c ∷ t) = slashes_from (slash_next s c) t
 
--- the text is a slash, characters that are none, a slash, and such letters or none: `/x/`, `/x/i`
+-- The text is a slash, characters that are none, a slash, and such letters: `/x/i`. Without letters it may be
+-- a part of a path that is meant so.
 abbrev pub HasSlashes : Text → Type 0
-HasSlashes t = slashes_from Start t ≡ Closed
+HasSlashes t = slashes_from Start t ≡ Flagged

@@ -4,7 +4,7 @@ ghost use Rattle.std.specs.Prelude.{◌≡◌, false, IsTrue};
 ghost use Rattle.std.specs.Str.{chars};
 ghost use Rattle.jp_explain.specs.Slashes.{HasSlashes, is_flag, slash_next, slashes_from};
 
-/// How far a text has come as a pattern between slashes, as `/x/` or `/x/i`.
+/// How far a text has come as a pattern between slashes with letters behind them, as `/x/i`.
 #[derive(Clone, Copy, Debug, PartialEq, Eq)]
 pub enum Slashes {
     /// It has not begun.
@@ -13,8 +13,10 @@ pub enum Slashes {
     Opened,
     /// Some characters behind it that are none.
     Inside,
-    /// The second slash, and letters that other languages write there, or none.
+    /// The second slash.
     Closed,
+    /// Letters behind it that other languages write there.
+    Flagged,
     /// It is no such pattern.
     Other,
 }
@@ -47,8 +49,8 @@ impl Slashes {
             } else {
                 Slashes::Inside
             },
-            Slashes::Closed => if is_flag(c) {
-                Slashes::Closed
+            Slashes::Closed | Slashes::Flagged => if is_flag(c) {
+                Slashes::Flagged
             } else {
                 Slashes::Other
             },
@@ -68,13 +70,13 @@ fn slashes_of(text: &str) -> Slashes
     slashes
 }
 
-/// Whether the text is a pattern between slashes.
+/// Whether the text is a pattern between slashes, with letters behind them.
 pub(crate) fn has_slashes(text: &str) -> bool
     ensures yes { IsTrue result → HasSlashes (chars text.now) }
     ensures no { result ≡ false → ¬ (HasSlashes (chars text.now)) }
 {
     match slashes_of(text) {
-        Slashes::Closed => true,
-        Slashes::Start | Slashes::Opened | Slashes::Inside | Slashes::Other => false,
+        Slashes::Flagged => true,
+        _ => false,
     }
 }
