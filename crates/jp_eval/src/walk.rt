@@ -488,7 +488,9 @@ fn all<'v, V: Visit + Drop>(
 }
 
 /// Whether the comparison is true. The members of a `$` value are in order where it is kept so.
+// It is no part of `holds`, whose frame is needed once a filter in a filter.
 #[cycle(walk)]
+#[inline(never)]
 fn compare<'v, V: Visit + Drop>(
     context: &Context<'v>,
     left: &'v Giver,
