@@ -1,30 +1,27 @@
 -- Laws of what a line is read as, by the numbers that a document may have.
-use Rattle.std.proofs.Common.{◌≡◌, ℕ, ◌≤◌, Bool, true, false, List, length, Option, Some, None, Result}
+use Rattle.std.proofs.Common.{◌≡◌, ℕ, ◌<◌, ◌≤◌, Bool, true, false, List, length, Option, Some, None, Result}
 use Rattle.std.proofs.Common.{Ok, Err, option_map, refl, sym, ap, ◌∙◌, subst, arith, if◌then◌else◌}
-use Rattle.std.proofs.Common.{nat_lt}
-use Rattle.std.proofs.lemmas.Bool.{ltb-false}
+use Rattle.std.proofs.Common.{nat_lt, lt-ltb}
 use Rattle.std.specs.Str.{is_utf8}
 use Rattle.json.specs.Json as grammar
-use Rattle.json.specs.Lex.{tokens}
-use Rattle.json.specs.Tree.{json_tokens}
 use Rattle.json.proofs.Found.{not_found, Some_inj}
 use Rattle.jp_doc.specs.Height.{height}
-use Rattle.jp_doc.specs.Json.{Json}
+use Rattle.jp_doc.specs.Json.{Json, item_list}
 use Rattle.jp_doc.specs.NumbersWithin.{AllNumbers, HasJsonNumbers}
 use Rattle.jp_doc.specs.Reading.{max_line, max_items, has_long_array, reading}
 use Rattle.jp_number.specs.declared.numbers.Numbers.{Numbers}
 use Rattle.jp_number.specs.declared.numbers.Numbers.TheVariants.{Whole, Decimals}
-use Rattle.jp_doc.specs.ReadingIn.{max_tokens, has_long_number}
+use Rattle.jp_doc.specs.ReadingIn.{has_long_number, items_have_long_number}
 use Rattle.jp_doc.specs.ReadingIn.{document_of, tree_reading, or_else, reading_in}
 use Rattle.jp_doc.specs.Rising.{IsRising}
-use Rattle.jp_doc.specs.Tree.{tree_of, tree_json}
+use Rattle.jp_doc.specs.Tree.{tree_of, tree_json, tree_items}
 use Rattle.jp_doc.specs.declared.fault.DocFault.{DocFault}
 use Rattle.jp_doc.specs.declared.fault.DocFault.TheVariants.{LongLine, Unreadable, NotWhole, LongNumber}
 use Rattle.jp_doc.specs.declared.fault.DocFault.TheVariants.{LongArray, Memory}
 use Rattle.jp_doc.proofs.NumberLaws.{json_numbers, whole_numbers_are_short, reading_is_whole, line_numbers}
 use Rattle.jp_doc.proofs.NumberLaws.{tree_numbers_are_short}
 use Rattle.jp_doc.proofs.ReadingLaws.{document_is_read, long_line_is_long}
-use Rattle.jp_doc.proofs.TreeFacts.{tree_rises, tree_height, tree_is_short}
+use Rattle.jp_doc.proofs.TreeFacts.{tree_rises, tree_height}
 use Rattle.jp_doc.proofs.TreeLaws.{tree_agrees}
 use Rattle.jp_doc.proofs.TreeNesting.{spelled_tree}
 use Rattle.jp_number.specs.Number.{IsShort}
@@ -42,43 +39,56 @@ same_long_line Decimals line e = ap (λ r. or_else r (tree_reading line)) e
 
 -- ---- what the tree tells
 
--- a value by the grammar alone is that of the line's tree, which has short numbers and few tokens
+-- a value by the grammar alone is that of the line's tree, whose numbers are short, and its arrays
 record IsOfTree (line : List ℕ) (v : Json) : Type 0 where
   tree : grammar.Json
   found : tree_of line ≡ Some tree
   short_numbers : has_long_number tree ≡ false
-  few : length (tokens line) ≤ max_tokens
+  short : has_long_array max_items v ≡ false
   value : tree_json tree ≡ v
 
 tested : (other long : Bool) (line : List ℕ) (j : grammar.Json) (v : Json) → tree_of line ≡ Some j
-    → has_long_number j ≡ other → nat_lt max_tokens (length (tokens line)) ≡ long
+    → has_long_number j ≡ other → has_long_array max_items (tree_json j) ≡ long
     → ◌≡◌ {A = Result Json DocFault} (if other then Err LongNumber else if long then Err LongArray
     else Ok (tree_json j)) (Ok v)
     → IsOfTree line v
 tested true long line j v is none e h = absurd (cc)
 tested false true line j v is none e h = absurd (cc)
 tested false false line j v is none e h =
+    let same : tree_json j ≡ v = cc in
     record {
       tree = j;
       found = is;
       short_numbers = none;
-      few = ltb-false max_tokens (length (tokens line)) e;
-      value = cc;
+      short = ap (has_long_array max_items) (sym same) ∙ e;
+      value = same;
     }
 
 from_tree : (o : Option grammar.Json) (line : List ℕ) (v : Json) → tree_of line ≡ o
-    → document_of o (length (tokens line)) ≡ Ok v → IsOfTree line v
+    → document_of o ≡ Ok v → IsOfTree line v
 from_tree None line v is h = absurd (cc)
 from_tree (Some j) line v is h = tested (has_long_number j) _ line j v is refl refl h
 
 of_tree_if : (b : Bool) (line : List ℕ) (v : Json)
-    → (if b then document_of (tree_of line) (length (tokens line)) else Err Unreadable) ≡ Ok v
+    → (if b then document_of (tree_of line) else Err Unreadable) ≡ Ok v
     → IsOfTree line v
 of_tree_if true line v h = from_tree (tree_of line) line v refl h
 of_tree_if false line v h = absurd (cc)
 
 of_tree : (line : List ℕ) (v : Json) → tree_reading line ≡ Ok v → IsOfTree line v
 of_tree line v h = of_tree_if (is_utf8 line) line v h
+
+-- ---- the tests of an array, in their order
+
+pub long_list : (js : grammar.Items) → items_have_long_number js ≡ false
+    → max_items < length (item_list (tree_items js)) → document_of (Some (grammar.array js)) ≡ Err LongArray
+long_list js short long =
+    let here : nat_lt max_items (length (item_list (tree_items js))) ≡ true = lt-ltb max_items _ long in
+    rw (short, here) refl
+
+pub number_in_a_list : (js : grammar.Items) → items_have_long_number js ≡ true
+    → document_of (Some (grammar.array js)) ≡ Err LongNumber
+number_in_a_list js long = rw long refl
 
 too_long : (line : List ℕ) (P : Type 0) → length line ≤ max_line → reading line ≡ Err LongLine → P
 too_long line P short e = let long = long_line_is_long line e in absurd (omega (arith, long))
@@ -139,13 +149,11 @@ of_decimals : (line : List ℕ) (v : Json) → tree_reading line ≡ Ok v → Is
 of_decimals line v h =
     let t = of_tree line v h in
     let spelled = spelled_tree line t.tree t.found in
-    let few : length (json_tokens t.tree) ≤ max_tokens =
-    subst (λ ts. length ts ≤ max_tokens) spelled.0 t.few in
     let height_is : height (tree_json t.tree) ≡ height v = ap height t.value in
     record {
       rises = subst IsRising t.value (tree_rises t.tree);
       nests = omega (arith, tree_height t.tree, spelled.1, height_is);
-      short = sym (ap (has_long_array max_items) t.value) ∙ tree_is_short t.tree max_items few;
+      short = t.short;
       numbers = subst HasJsonNumbers t.value (line_numbers line t.tree t.found);
       short_numbers = subst (AllNumbers IsShort) t.value (tree_numbers_are_short t.tree t.short_numbers);
     }

@@ -46,13 +46,14 @@ fault_of n d =
     else if has_long_array n (json_of d) then Some LongArray
     else None
 
+-- the value, unless an array of it is too long
+abbrev pub unless_long : Json → Result Json DocFault
+unless_long v = if has_long_array max_items v then Err LongArray else Ok v
+
 -- what is left to test of a value that the crate has read: that its numbers are whole, and then its arrays
 abbrev pub document_from : Option Data → Result Json DocFault
 document_from None = Err Unreadable
-document_from (Some d) =
-    if has_float d then Err NotWhole
-    else if has_long_array max_items (json_of d) then Err LongArray
-    else Ok (json_of d)
+document_from (Some d) = if has_float d then Err NotWhole else unless_long (json_of d)
 
 -- The document that a line holds, or the first of the faults that applies.
 abbrev pub reading : List ℕ → Result Json DocFault

@@ -1,11 +1,10 @@
 -- What a line is read as, by the numbers that a document may have (RFC 8259, 6).
-use Rattle.std.specs.Prelude.{ℕ, ◌+◌, Bool, false, not, ◌||◌, nat_lt, List, length, Option, Some, None}
-use Rattle.std.specs.Prelude.{Result, Ok, Err, if◌then◌else◌}
+use Rattle.std.specs.Prelude.{ℕ, Bool, false, not, ◌||◌, List, Option, Some, None, Result, Ok, Err}
+use Rattle.std.specs.Prelude.{if◌then◌else◌}
 use Rattle.std.specs.Str.{is_utf8}
 use Rattle.json.specs.Json as grammar
-use Rattle.json.specs.Lex.{tokens}
 use Rattle.jp_doc.specs.Json.{Json}
-use Rattle.jp_doc.specs.Reading.{max_items, reading}
+use Rattle.jp_doc.specs.Reading.{unless_long, reading}
 use Rattle.jp_doc.specs.Tree.{tree_of, text_number, tree_json}
 use Rattle.jp_number.specs.Number.{is_short}
 use Rattle.jp_number.specs.declared.numbers.Numbers.{Numbers}
@@ -13,10 +12,6 @@ use Rattle.jp_number.specs.declared.numbers.Numbers.TheVariants.{Whole, Decimals
 use Rattle.jp_doc.specs.declared.fault.DocFault.{DocFault}
 use Rattle.jp_doc.specs.declared.fault.DocFault.TheVariants.{LongLine, Unreadable, NotWhole, LongNumber}
 use Rattle.jp_doc.specs.declared.fault.DocFault.TheVariants.{LongArray, Memory}
-
--- the greatest number of tokens: those of an array of the greatest number of items, and its brackets
-abbrev pub max_tokens : ℕ
-max_tokens = max_items + 2
 
 -- some number in the tree is over the limits, also where the last member of its name covers it
 abbrev mutual
@@ -36,17 +31,14 @@ abbrev mutual
   members_have_long_number grammar.no_members = false
   members_have_long_number (grammar.member k j ms) = has_long_number j || members_have_long_number ms
 
--- what is left to test of a tree: its numbers, and then how many tokens the line has
-abbrev pub document_of : Option grammar.Json → ℕ → Result Json DocFault
-document_of None count = Err Unreadable
-document_of (Some j) count =
-    if has_long_number j then Err LongNumber
-    else if nat_lt max_tokens count then Err LongArray
-    else Ok (tree_json j)
+-- what is left to test of a tree: its numbers, and then the arrays of its value
+abbrev pub document_of : Option grammar.Json → Result Json DocFault
+document_of None = Err Unreadable
+document_of (Some j) = if has_long_number j then Err LongNumber else unless_long (tree_json j)
 
 -- what a line of at most so many bytes is read as by the grammar alone
 abbrev pub tree_reading : List ℕ → Result Json DocFault
-tree_reading line = if is_utf8 line then document_of (tree_of line) (length (tokens line)) else Err Unreadable
+tree_reading line = if is_utf8 line then document_of (tree_of line) else Err Unreadable
 
 -- the first, where it is a value or tells of a line that is too long, and else the second
 abbrev pub or_else : Result Json DocFault → Result Json DocFault → Result Json DocFault

@@ -1,12 +1,15 @@
 //! What lines are read as, by the numbers that a document may have.
 
-ghost use Rattle.std.specs.Prelude.{◌≡◌, [], ◌∷◌, ◌++◌, codes, replicate, pos, negsuc, true, false};
-ghost use Rattle.std.specs.Prelude.{None, Some, Ok, Err};
+ghost use Rattle.std.specs.Prelude.{◌≡◌, ◌<◌, [], ◌∷◌, ◌++◌, codes, replicate, length, pos, negsuc};
+ghost use Rattle.std.specs.Prelude.{true, false, None, Some, Ok, Err};
 ghost use Rattle.json.specs.Json as grammar;
 ghost use Rattle.jp_doc.specs.Json.{null, number, array, object, no_items, add_item, no_members, add_member};
+ghost use Rattle.jp_doc.specs.Json.{item_list};
+ghost use Rattle.jp_doc.specs.Reading.{max_items};
 ghost use Rattle.jp_number.specs.declared.numbers.Numbers.TheVariants.{Whole, Decimals};
-ghost use Rattle.jp_doc.specs.ReadingIn.{has_long_number, document_of};
+ghost use Rattle.jp_doc.specs.ReadingIn.{has_long_number, items_have_long_number, document_of};
 ghost use Rattle.jp_doc.specs.ReadingIn.{tree_reading, or_else, reading_in};
+ghost use Rattle.jp_doc.specs.Tree.{tree_items};
 ghost use Rattle.jp_doc.specs.declared.fault.DocFault.TheVariants.{LongLine, Unreadable, NotWhole};
 ghost use Rattle.jp_doc.specs.declared.fault.DocFault.TheVariants.{LongNumber, LongArray};
 ghost use Rattle.jp_number.specs.Number.{whole, written};
@@ -49,14 +52,19 @@ fn numbers_in_trees()
     ensures no_number { has_long_number (grammar.string (codes "1e0000000001")) ≡ false }
 {}
 
-// The tests of a tree in their order: 16,777,218 tokens at most.
-#[tactic(auto, unfolding(crate::proofs::OnLiterals::documents_on_literals))]
+// The tests of a tree in their order: its numbers, wherever they stand, and then the arrays of its value.
+#[tactic(auto, unfolding(crate::proofs::OnLiterals::documents_on_literals),
+    using(crate::proofs::ReadingInLaws::long_list, crate::proofs::ReadingInLaws::number_in_a_list))]
 fn tests_of_a_tree()
-    ensures none { document_of None 1 ≡ Err Unreadable }
-    ensures at_the_limit { document_of (Some grammar.null) 16777218 ≡ Ok null }
-    ensures above_the_limit { document_of (Some grammar.null) 16777219 ≡ Err LongArray }
-    ensures numbers_first { document_of (Some (grammar.number (codes "1e0000000001"))) 16777219
-        ≡ Err LongNumber }
+    ensures none { document_of None ≡ Err Unreadable }
+    ensures value { document_of (Some grammar.null) ≡ Ok null }
+    ensures number { document_of (Some (grammar.number (codes "1e0000000001"))) ≡ Err LongNumber }
+    ensures short_array { document_of (Some (grammar.array grammar.no_items)) ≡ Ok (array no_items) }
+    ensures long_array { (js : grammar.Items) → items_have_long_number js ≡ false
+        → max_items < length (item_list (tree_items js))
+        → document_of (Some (grammar.array js)) ≡ Err LongArray }
+    ensures numbers_first { (js : grammar.Items) → items_have_long_number js ≡ true
+        → document_of (Some (grammar.array js)) ≡ Err LongNumber }
 {}
 
 fn what_comes_first()
