@@ -54,7 +54,7 @@ passes all i end s =
 -- the line is a value's text, behind blanks
 pub whole_line : (line : List ℕ) (decimals : Bool) (from end : ℕ) (empty nodes : List FlatNode)
     → Blanks line 0 from
-    → Reads line decimals from end 127 empty nodes → end ≡ length line → empty ≡ [] → length nodes ≤ 16777218
+    → Reads line decimals from end 127 empty nodes → end ≡ length line → empty ≡ [] → length nodes ≤ 268435456
     → IsRead decimals line nodes
 whole_line line decimals from end empty nodes blanks r all none few =
     let p = behind line 0 from end (json_tokens r.value) (value_begins r.value) blanks r.text in

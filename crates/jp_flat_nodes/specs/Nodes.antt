@@ -95,4 +95,4 @@ pub record IsRead (decimals : Bool) (line : List ℕ) (nodes : List FlatNode) : 
   pub are : tokens_at line nodes ≡ tokens line
   pub linked : AreLinked (tokens line) nodes
   pub within : AreWithin (length line) nodes
-  pub few : length nodes ≤ 16777218
+  pub few : length nodes ≤ 268435456

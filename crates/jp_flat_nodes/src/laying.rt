@@ -39,7 +39,7 @@ fn keep(text: &str, texts: &mut Vec<u8>) -> Result<Kept, AllocError>
 ///
 /// `AllocError` as of `keep`.
 fn laid(node: &Taped<'_>, texts: &mut Vec<u8>) -> Result<FlatNode, AllocError>
-    requires { EndsWithin 16777218 node.now }
+    requires { EndsWithin 268435456 node.now }
     ensures { IfOk result (λ own. IsLaid texts.old.items texts.new.items node.now own) }
 {
     match node {
@@ -72,7 +72,7 @@ pub fn lay(
     texts: &mut Vec<u8>,
     nodes: &mut Vec<FlatNode>,
 ) -> Result<(), AllocError>
-    requires few { length tape.now ≤ 16777218 }
+    requires few { length tape.now ≤ 268435456 }
     requires linked { Linked (map node_token tape.now) 0 tape.now }
     ensures tokens { OnOk result (tokens_at texts.new.items nodes.new.items ≡ map node_token tape.now) }
     ensures linked { OnOk result (AreLinked (map node_token tape.now) nodes.new.items) }

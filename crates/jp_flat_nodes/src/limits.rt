@@ -16,5 +16,6 @@ pub(crate) const MAX_EXPONENT: usize = 10;
 /// The most bytes of a text, and of all texts before it.
 pub(crate) const MAX_TEXT: usize = 0x7fff_ffff;
 
-/// The greatest number of nodes: those of an array of 16,777,216 items, and its brackets.
-pub const MAX_NODES: usize = 16_777_218;
+/// The greatest number of nodes: one for each byte of the longest line, so that a place among them has 32
+/// bits.
+pub const MAX_NODES: usize = 268_435_456;
