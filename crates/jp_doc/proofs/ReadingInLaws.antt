@@ -5,10 +5,12 @@ use Rattle.std.proofs.Common.{nat_lt, lt-ltb}
 use Rattle.std.specs.Str.{is_utf8}
 use Rattle.json.specs.Json as grammar
 use Rattle.json.proofs.Found.{not_found, Some_inj}
+use Rattle.serde_json.specs.Data.{Data}
+use Rattle.serde_json.specs.Read.{read}
 use Rattle.jp_doc.specs.Height.{height}
 use Rattle.jp_doc.specs.Json.{Json, item_list}
 use Rattle.jp_doc.specs.NumbersWithin.{AllNumbers, HasJsonNumbers}
-use Rattle.jp_doc.specs.Reading.{max_line, max_items, has_long_array, reading}
+use Rattle.jp_doc.specs.Reading.{max_line, max_items, has_long_array, unless_long, reading}
 use Rattle.jp_number.specs.declared.numbers.Numbers.{Numbers}
 use Rattle.jp_number.specs.declared.numbers.Numbers.TheVariants.{Whole, Decimals}
 use Rattle.jp_doc.specs.ReadingIn.{has_long_number, items_have_long_number}
@@ -118,6 +120,41 @@ fault_by_tree line NotWhole short e = ap (λ r. or_else r (tree_reading line)) e
 fault_by_tree line LongNumber short e = ap (λ r. or_else r (tree_reading line)) e
 fault_by_tree line LongArray short e = ap (λ r. or_else r (tree_reading line)) e
 fault_by_tree line Memory short e = ap (λ r. or_else r (tree_reading line)) e
+
+-- and it tells the rest too, but for numbers over the limits
+same_by_tree : (b : Bool) (line : List ℕ) (j : grammar.Json) (v : Json) → has_long_number j ≡ b
+    → tree_json j ≡ v → has_long_array max_items v ≡ false
+    → (document_of (Some j) ≡ Err LongNumber → ⊥) → document_of (Some j) ≡ Ok v
+same_by_tree true line j v long same short other = absurd (other (rw long refl))
+same_by_tree false line j v long same short other =
+    ap (λ b. if b then Err LongNumber else unless_long (tree_json j)) long ∙ ap unless_long same ∙ rw short refl
+
+utf8_if : (b : Bool) (line : List ℕ) (d : Data) → is_utf8 line ≡ b
+    → (if b then read line else None) ≡ Some d → is_utf8 line ≡ true
+utf8_if true line d e h = e
+utf8_if false line d e h = not_found d h
+
+value_decided : (line : List ℕ) (o : Option grammar.Json) (v : Json) → tree_of line ≡ o
+    → option_map tree_json o ≡ Some v → is_utf8 line ≡ true → has_long_array max_items v ≡ false
+    → (tree_reading line ≡ Err LongNumber → ⊥) → tree_reading line ≡ Ok v
+value_decided line None v is h utf8 short other = not_found v h
+value_decided line (Some j) v is h utf8 short other =
+    let by : tree_reading line ≡ document_of (Some j) =
+    ap (λ b. if b then document_of (tree_of line) else Err Unreadable) utf8 ∙ ap document_of is in
+    by ∙ same_by_tree (has_long_number j) line j v refl (Some_inj (tree_json j) v h) short
+    (λ e. other (by ∙ e))
+
+pub decided_by_tree : (line : List ℕ) → length line ≤ max_line
+    → (tree_reading line ≡ Err LongNumber → ⊥) → reading_in Decimals line ≡ tree_reading line
+decided_by_tree line short other = go (reading line) refl
+  where
+    go : (r : Result Json DocFault) → reading line ≡ r → reading_in Decimals line ≡ tree_reading line
+    go (Ok v) e =
+        let read_as = document_is_read line v e in
+        same_reading Decimals line v e
+        ∙ sym (value_decided line (tree_of line) v refl (tree_agrees line v e)
+        (utf8_if (is_utf8 line) line read_as.1 refl read_as.2) read_as.4 other)
+    go (Err f) e = fault_by_tree line f short e
 
 -- ---- what is true of every value that is read
 

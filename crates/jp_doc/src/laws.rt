@@ -79,11 +79,14 @@ pub fn read_with_all_numbers()
 {}
 
 /// With decimals the grammar alone tells of a line that is not too long: its value where it has one, and else
-/// its fault, where `reading` has one.
+/// its fault, where `reading` has one, or where that is no number over the limits.
+#[tactic(auto, using(crate::proofs::ReadingInLaws::decided_by_tree))]
 pub fn read_by_the_grammar()
     ensures value { (line : List ℕ) (v : Json) → length line ≤ max_line → tree_reading line ≡ Ok v
         → reading_in Decimals line ≡ Ok v }
     ensures fault { (line : List ℕ) (f : DocFault) → length line ≤ max_line → reading line ≡ Err f
+        → reading_in Decimals line ≡ tree_reading line }
+    ensures other_fault { (line : List ℕ) → length line ≤ max_line → ¬ (tree_reading line ≡ Err LongNumber)
         → reading_in Decimals line ≡ tree_reading line }
 {}
 

@@ -16,7 +16,7 @@ use serde_json::{Map, Value};
 pub const MAX_LINE: usize = 268_435_456;
 
 /// The greatest number of items in an array: under this limit an index has 32 bits, from the end too.
-pub(crate) const MAX_ITEMS: usize = 16_777_216;
+pub const MAX_ITEMS: usize = 16_777_216;
 
 /// The number of bytes of a line behind which those who keep buffers let them go: 1 MB, so that one long line
 /// does not hold its memory as long as short ones follow.

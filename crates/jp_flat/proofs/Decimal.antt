@@ -1,12 +1,8 @@
 -- What the pass over the nodes of a line tells, where numbers need not be whole.
-use Rattle.std.proofs.Common.{◌≡◌, ℕ, ◌<◌, ◌≤◌, Bool, true, false, not, ◌&&◌, List, [], ◌∷◌, length, Option}
-use Rattle.std.proofs.Common.{Some}
-use Rattle.std.proofs.Common.{None, Result, Ok, Err, IsSome, refl, sym, ap, ◌∙◌, subst, arith}
-use Rattle.std.proofs.Common.{if◌then◌else◌}
-use Rattle.std.proofs.Common.{append-nil}
-use Rattle.std.proofs.lemmas.Bool.{ltb-false, le-ltb}
+use Rattle.std.proofs.Common.{◌≡◌, ◌≢◌, ℕ, ◌<◌, ◌≤◌, Bool, true, false, not, ◌&&◌, List, [], ◌∷◌, length}
+use Rattle.std.proofs.Common.{Option, Some, None, Result, Ok, Err, IsSome, refl, sym, ap, ◌∙◌, subst, arith}
+use Rattle.std.proofs.Common.{if◌then◌else◌, append-nil}
 use Rattle.std.proofs.lemmas.Str.{IsUtf8-from_is_utf8}
-use Rattle.std.specs.Prelude.{nat_lt}
 use Rattle.std.specs.Str.{IsUtf8, is_utf8}
 use Rattle.json.specs.Json as text
 use Rattle.json.specs.Lex.{tokens}
@@ -15,25 +11,33 @@ use Rattle.json.specs.Token.{Token}
 use Rattle.json.specs.Tree as tree
 use Rattle.json.specs.declared.error.Error as tape
 use Rattle.json.specs.declared.error.Error.TheVariants.{Invalid, OutOfMemory, TooLong, DuplicateKey}
+use Rattle.json.proofs.Found.{Some_inj}
 use Rattle.json.proofs.Numbered.{ArePrintableOrBad-tokens}
 use Rattle.jp_doc.specs.Json.{Json}
-use Rattle.jp_doc.specs.Reading.{max_line}
+use Rattle.jp_doc.specs.Reading.{max_line, max_items, has_long_array, unless_long}
 use Rattle.jp_number.specs.declared.numbers.Numbers.TheVariants.{Decimals}
-use Rattle.jp_doc.specs.ReadingIn.{max_tokens, has_long_number, tree_reading, reading_in}
+use Rattle.jp_doc.specs.ReadingIn.{has_long_number, tree_reading, reading_in}
 use Rattle.jp_doc.specs.Tree.{tree_of, text_number, tree_json}
 use Rattle.jp_doc.specs.declared.fault.DocFault.{DocFault}
 use Rattle.jp_doc.specs.declared.fault.DocFault.TheVariants.{LongLine, Unreadable, LongNumber, LongArray}
+use Rattle.jp_doc.specs.declared.fault.DocFault.TheVariants.{Memory}
 use Rattle.jp_doc.proofs.TreeNesting.{shallow_tree, spelled_tree, tree_has_numbers}
-use Rattle.jp_doc.proofs.ReadingInLaws.{value_by_tree}
-use Rattle.jp_flat.specs.Document.{grammar_reading}
+use Rattle.jp_doc.proofs.ReadingInLaws.{decided_by_tree, fault_by_tree, same_long_line}
 use Rattle.jp_flat.specs.Flat.{value_at}
+use Rattle.jp_flat.specs.inner.Decimals.{whole_fault}
+use Rattle.jp_flat.specs.inner.FlatAnswers.{IsFlatAnswer, told_over}
 use Rattle.jp_flat.specs.inner.Nesting.{nests_from}
 use Rattle.jp_flat.specs.inner.Plain.{is_flat, is_whole_text}
 use Rattle.jp_flat.specs.inner.Rows.{are_short, are_within, pass_answer, pass_fault, by_fault}
+use Rattle.jp_flat.specs.declared.lines.FlatAnswer.{FlatAnswer}
+use Rattle.jp_flat.specs.declared.lines.Room.{Room}
 use Rattle.jp_flat.proofs.Faults.{all_rows, answer_is, none_is}
+use Rattle.jp_flat.proofs.FewTokens.{few_tokens}
 use Rattle.jp_flat.proofs.Nesting.{tree_is}
 use Rattle.jp_flat.proofs.Numbers as numbers
 use Rattle.jp_flat.proofs.Reading.{Flat, flat_is, fit_tree, value_is}
+use Rattle.jp_flat.proofs.WholeFaults as whole
+use Rattle.jp_flat.proofs.WholeFaults.{fault_of_nodes}
 use Rattle.jp_flat.proofs.WholeTexts.{number_is, other_is}
 use Rattle.jp_number.specs.Number.{written, IsShort, is_short}
 use Rattle.jp_number.proofs.Limits.{short_by_test}
@@ -72,48 +76,43 @@ line_within line = all_within (tokens line) (ArePrintableOrBad-tokens line)
 
 -- ---- the answer by the fault that is found
 
-one_answer : (n w l : Bool) (v : Json)
-    → ◌≡◌ {A = Result Json DocFault}
-    (if n then (if w then (if l then Err LongArray else Ok v) else Err LongNumber)
-    else Err Unreadable)
-    (by_fault (if n then (if w then (if l then Some LongArray else None) else Some LongNumber)
-    else Some Unreadable) v)
-one_answer true true true v = refl
-one_answer true true false v = refl
-one_answer true false l v = refl
-one_answer false w l v = refl
+one_answer : (n w : Bool) (v : Json)
+    → (if n then (if w then unless_long v else Err LongNumber) else Err Unreadable)
+    ≡ by_fault (if n then (if w then None else Some LongNumber) else Some Unreadable) v
+one_answer true true v = refl
+one_answer true false v = refl
+one_answer false w v = refl
 
 answer_by_pass : (line : List ℕ) (j : text.Json)
     → pass_answer (tokens line) j ≡ by_fault (pass_fault (tokens line)) (tree_json j)
 answer_by_pass line j =
     let ts = tokens line in
-    ap (λ w. if nests_from 0 ts then (if w then (if nat_lt max_tokens (length ts) then Err LongArray
-    else Ok (tree_json j)) else Err LongNumber) else Err Unreadable) (sym (line_within line))
-    ∙ one_answer (nests_from 0 ts) (are_within ts) (nat_lt max_tokens (length ts)) (tree_json j)
+    ap (λ w. if nests_from 0 ts then (if w then unless_long (tree_json j) else Err LongNumber)
+    else Err Unreadable) (sym (line_within line))
+    ∙ one_answer (nests_from 0 ts) (are_within ts) (tree_json j)
 
 -- what is so where none is found
 record NoFault (ts : List Token) : Type 0 where
   nests : nests_from 0 ts ≡ true
   within : are_within ts ≡ true
-  few : length ts ≤ max_tokens
 
-no_fault_if : (n w l : Bool) (ts : List Token) → nests_from 0 ts ≡ n → are_within ts ≡ w
-    → nat_lt max_tokens (length ts) ≡ l
-    → ◌≡◌ {A = Option DocFault}
-    (if n then (if w then (if l then Some LongArray else None) else Some LongNumber)
-    else Some Unreadable) None → NoFault ts
-no_fault_if true true true ts e f g h = absurd (cc)
-no_fault_if true true false ts e f g h =
-    record { nests = e; within = f; few = ltb-false max_tokens (length ts) g }
-no_fault_if true false l ts e f g h = absurd (cc)
-no_fault_if false w l ts e f g h = absurd (cc)
+no_fault_if : (n w : Bool) (ts : List Token) → nests_from 0 ts ≡ n → are_within ts ≡ w
+    → ◌≡◌ {A = Option DocFault} (if n then (if w then None else Some LongNumber) else Some Unreadable) None
+    → NoFault ts
+no_fault_if true true ts e f h = record { nests = e; within = f }
+no_fault_if true false ts e f h = absurd (cc)
+no_fault_if false w ts e f h = absurd (cc)
 
 no_fault : (ts : List Token) → pass_fault ts ≡ None → NoFault ts
-no_fault ts h = no_fault_if _ _ _ ts refl refl refl h
+no_fault ts h = no_fault_if _ _ ts refl refl h
 
--- so there are few
-pub few_of_pass : (ts : List Token) → pass_fault ts ≡ None → length ts ≤ max_tokens
-few_of_pass ts h = (no_fault ts h).few
+-- none but two are found
+two_faults : (n w : Bool) (f : DocFault)
+    → (if n then (if w then None else Some LongNumber) else Some Unreadable) ≡ Some f
+    → (f ≡ LongNumber → ⊥) → f ≡ Unreadable
+two_faults true true f h other = absurd (cc)
+two_faults true false f h other = absurd (other (sym (Some_inj LongNumber f h)))
+two_faults false w f h other = sym (Some_inj Unreadable f h)
 
 not_long : (b : Bool) → (not b && true) ≡ true → b ≡ false
 not_long true h = absurd (cc)
@@ -122,43 +121,43 @@ not_long false h = refl
 -- ---- a line that the kit reads
 
 flat_line : (line : List ℕ) (j : text.Json) → IsUtf8 line → text.document line ≡ Some j
-    → pass_fault (tokens line) ≡ None → Flat (tokens line)
-flat_line line j u e none =
+    → length line ≤ max_line → pass_fault (tokens line) ≡ None → Flat (tokens line)
+flat_line line j u e short none =
     let n = no_fault (tokens line) none in
     let found : tree_of line ≡ Some j =
     tree_is line ∙ ap (λ b. if b then text.document line else None) n.nests ∙ e in
     let spelled = spelled_tree line j found in
     let rows = all_rows line j e (tree_has_numbers line j found) in
-    let short = not_long (has_long_number j) (sym rows ∙ sym (line_within line) ∙ n.within) in
+    let within = not_long (has_long_number j) (sym rows ∙ sym (line_within line) ∙ n.within) in
     record {
       source = j;
       rest = [];
       spelled = spelled.0 ∙ sym (append-nil _);
       nests = spelled.1;
-      few = subst (λ ts. length ts ≤ max_tokens) spelled.0 n.few;
-      fit = fit_tree line j e u spelled.1 short;
+      few = omega (arith, ap length spelled.0, few_tokens line, short);
+      fit = fit_tree line j e u spelled.1 within;
     }
 
 -- its value, where the pass finds no fault
 record ReadDecimal (line : List ℕ) : Type 0 where
   flat : is_flat (tokens line) ≡ true
-  reads : tree_reading line ≡ Ok (value_at (tokens line))
+  reads : tree_reading line ≡ unless_long (value_at (tokens line))
 
 read_line : (line : List ℕ) (j : text.Json) → IsUtf8 line → text.document line ≡ Some j
-    → pass_fault (tokens line) ≡ None → ReadDecimal line
+    → length line ≤ max_line → pass_fault (tokens line) ≡ None → ReadDecimal line
 unfolding flat_line
-read_line line j u e none =
-    let f = flat_line line j u e none in
+read_line line j u e short none =
+    let f = flat_line line j u e short none in
     record {
       flat = flat_is (tokens line) f;
       reads = answer_is line j u e ∙ answer_by_pass line j ∙ ap (λ o. by_fault o (tree_json j)) none
-          ∙ ap Ok (sym (value_is (tokens line) f));
+          ∙ ap unless_long (sym (value_is (tokens line) f));
     }
 
 read_some : (line : List ℕ) (o : Option text.Json) → IsUtf8 line → text.document line ≡ o → IsSome o
-    → pass_fault (tokens line) ≡ None → ReadDecimal line
-read_some line None u e some none = absurd (cc)
-read_some line (Some j) u e some none = read_line line j u e none
+    → length line ≤ max_line → pass_fault (tokens line) ≡ None → ReadDecimal line
+read_some line None u e some short none = absurd (cc)
+read_some line (Some j) u e some short none = read_line line j u e short none
 
 fault_some : (line : List ℕ) (o : Option text.Json) (f : DocFault) → IsUtf8 line → text.document line ≡ o
     → IsSome o → pass_fault (tokens line) ≡ Some f → tree_reading line ≡ Err f
@@ -166,36 +165,66 @@ fault_some line None f u e some found = absurd (cc)
 fault_some line (Some j) f u e some found =
     answer_is line j u e ∙ answer_by_pass line j ∙ ap (λ o. by_fault o (tree_json j)) found
 
--- ---- as the reader knows it
+-- ---- what is read with decimals, which the grammar alone tells but for numbers over the limits
 
-by_length : (line : List ℕ) → length line ≤ max_line → grammar_reading line ≡ tree_reading line
-by_length line short =
-    ap (λ b. if b then Err LongLine else tree_reading line) (le-ltb max_line (length line) short)
+no_number_if : (b : Bool) (v : Json)
+    → ◌≡◌ {A = Result Json DocFault} (if b then Err LongArray else Ok v) (Err LongNumber) → ⊥
+no_number_if true v h = absurd (cc)
+no_number_if false v h = absurd (cc)
 
 -- where the pass finds no fault
 pub value_of_pass : (line : List ℕ) → IsUtf8 line → IsSome (text.document line) → length line ≤ max_line
     → pass_fault (tokens line) ≡ None
-    → (is_flat (tokens line) ≡ true) × (grammar_reading line ≡ Ok (value_at (tokens line)))
+    → (is_flat (tokens line) ≡ true) × (reading_in Decimals line ≡ unless_long (value_at (tokens line)))
 value_of_pass line u made short none =
-    let r = read_some line (text.document line) u refl made none in
-    (r.flat, by_length line short ∙ r.reads)
+    let r = read_some line (text.document line) u refl made short none in (
+      r.flat,
+      decided_by_tree line short (λ e. no_number_if (has_long_array max_items (value_at (tokens line))) _
+          (sym r.reads ∙ e)) ∙ r.reads,
+    )
 
+unread : (line : List ℕ) → length line ≤ max_line → tree_reading line ≡ Err Unreadable
+    → (reading_in Decimals line ≡ Err Unreadable) × (Unreadable ≢ Memory)
+unread line short h = (decided_by_tree line short (λ e. absurd (cc)) ∙ h, λ m. cc)
+
+-- where it finds another fault than a number
 pub fault_of_pass : (line : List ℕ) (f : DocFault) → IsUtf8 line → IsSome (text.document line)
-    → length line ≤ max_line → pass_fault (tokens line) ≡ Some f → grammar_reading line ≡ Err f
-fault_of_pass line f u made short found =
-    by_length line short ∙ fault_some line (text.document line) f u refl made found
+    → length line ≤ max_line → pass_fault (tokens line) ≡ Some f → (f ≡ LongNumber → ⊥)
+    → (reading_in Decimals line ≡ Err f) × (f ≢ Memory)
+fault_of_pass line f u made short found other =
+    let is = two_faults _ _ f found other in
+    let told = fault_some line (text.document line) f u refl made found in
+    subst (λ g. (reading_in Decimals line ≡ Err g) × (g ≢ Memory)) (sym is)
+    (unread line short (told ∙ ap Err is))
+
+-- where it finds a number, by what a pass over the nodes says of whole ones
+over_if : (o : Option DocFault) (line : List ℕ) (room : Room) → IsUtf8 line → IsSome (text.document line)
+    → length line ≤ max_line → tree_reading line ≡ Err LongNumber → whole_fault (tokens line) ≡ o
+    → IsFlatAnswer (told_over o) Decimals line room
+over_if None line room u made short over is =
+    (λ g h. fault_by_tree line g short h ∙ over, λ m. absurd (cc))
+over_if (Some f) line room u made short over is =
+    (fault_by_tree line f short (fault_of_nodes line f u made short is) ∙ over, λ m. cc)
+
+pub over_of_pass : (line : List ℕ) (room : Room) (a : FlatAnswer) → IsUtf8 line
+    → IsSome (text.document line) → length line ≤ max_line → pass_fault (tokens line) ≡ Some LongNumber
+    → a ≡ told_over (whole_fault (tokens line)) → IsFlatAnswer a Decimals line room
+over_of_pass line room a u made short found is =
+    subst (λ b. IsFlatAnswer b Decimals line room) (sym is)
+    (over_if (whole_fault (tokens line)) line room u made short
+    (fault_some line (text.document line) LongNumber u refl made found) refl)
 
 -- of a value with numbers within the limits it finds none
 pub short_passes : (line : List ℕ) (j : text.Json) → text.document line ≡ Some j → tree.depth j ≤ 127
-    → has_long_number j ≡ false → length (tokens line) ≤ max_tokens → pass_fault (tokens line) ≡ None
-short_passes line j e nests short few =
+    → has_long_number j ≡ false → pass_fault (tokens line) ≡ None
+short_passes line j e nests short =
     let found = shallow_tree line j e nests in
     let open_so : nests_from 0 (tokens line) ≡ true = opened (nests_from 0 (tokens line))
     (sym (tree_is line) ∙ found) in
     let within : are_within (tokens line) ≡ true = line_within line
     ∙ all_rows line j e (tree_has_numbers line j found)
     ∙ ap (λ b. not b && true) short in
-    rw (open_so, within, le-ltb max_tokens (length (tokens line)) few) refl
+    rw (open_so, within) refl
   where
     opened : (b : Bool) → (if b then text.document line else None) ≡ Some j → b ≡ true
     opened true h = refl
@@ -206,9 +235,9 @@ pub refused : {T : Type 0} (line s : List ℕ) (r : Result T tape.Error) (e : ta
     → (e ≡ OutOfMemory → ⊥)
     → (r ≡ Err Invalid → text.document s ≡ None) → (r ≡ Err TooLong → 4294967040 < length s)
     → (r ≡ Err DuplicateKey → ⊥) → (s ≡ line) × IsUtf8 line → length line ≤ max_line
-    → ◌≡◌ {A = Result Json DocFault} (Err Unreadable) (grammar_reading line)
+    → (reading_in Decimals line ≡ Err Unreadable) × (Unreadable ≢ Memory)
 refused line s r Invalid e other invalid long twice is short =
-    sym (none_is line is.1 (sym (ap text.document is.0) ∙ invalid e)) ∙ sym (by_length line short)
+    unread line short (none_is line is.1 (sym (ap text.document is.0) ∙ invalid e))
 refused line s r OutOfMemory e other invalid long twice is short = absurd (other refl)
 refused line s r TooLong e other invalid long twice is short =
     let same = ap length is.0 in
@@ -222,16 +251,10 @@ no_text_if true line e none = absurd (none (IsUtf8-from_is_utf8 line e))
 no_text_if false line e none = rw e refl
 
 pub no_text : (line : List ℕ) → (IsUtf8 line → ⊥) → length line ≤ max_line
-    → ◌≡◌ {A = Result Json DocFault} (Err Unreadable) (grammar_reading line)
-no_text line none short = sym (no_text_if (is_utf8 line) line refl none) ∙ sym (by_length line short)
+    → (reading_in Decimals line ≡ Err Unreadable) × (Unreadable ≢ Memory)
+no_text line none short = unread line short (no_text_if (is_utf8 line) line refl none)
 
--- ---- what is read so is what is read with decimals
-
-value_if : (b : Bool) (line : List ℕ) (v : Json) → nat_lt max_line (length line) ≡ b
-    → ◌≡◌ {A = Result Json DocFault} (if b then Err LongLine else tree_reading line) (Ok v)
-    → reading_in Decimals line ≡ Ok v
-value_if true line v e h = absurd (cc)
-value_if false line v e h = value_by_tree line v (ltb-false max_line (length line) e) h
-
-pub value_told : (line : List ℕ) (v : Json) → grammar_reading line ≡ Ok v → reading_in Decimals line ≡ Ok v
-value_told line v h = value_if (nat_lt max_line (length line)) line v refl h
+-- one that is too long
+pub long_line : (line : List ℕ) → max_line < length line
+    → (reading_in Decimals line ≡ Err LongLine) × (LongLine ≢ Memory)
+long_line line long = (same_long_line Decimals line (whole.long_line line long).0, λ m. cc)

@@ -1,9 +1,8 @@
 -- What a pass over the tokens of a line tells of its reading by the grammar alone: its value or its fault.
-use Rattle.std.proofs.Common.{◌≡◌, ℕ, ◌≤◌, Bool, true, false, not, ◌&&◌, ◌||◌, List, [], ◌++◌, length}
-use Rattle.std.proofs.Common.{Option, Some, None, Result, Ok, Err, refl, sym, ap, ◌∙◌, if◌then◌else◌}
+use Rattle.std.proofs.Common.{◌≡◌, ℕ, Bool, true, false, not, ◌&&◌, ◌||◌, List, [], ◌++◌}
+use Rattle.std.proofs.Common.{Option, Some, None, Result, Err, refl, sym, ap, ◌∙◌, if◌then◌else◌}
 use Rattle.std.proofs.Common.{append_assoc, append-nil}
 use Rattle.std.proofs.lemmas.Str.{is_utf8-from_IsUtf8}
-use Rattle.std.specs.Prelude.{nat_lt}
 use Rattle.std.specs.Str.{IsUtf8}
 use Rattle.json.specs.Token.{Token}
 use Rattle.json.specs.Lex.{tokens}
@@ -12,14 +11,12 @@ use Rattle.json.specs.Tree.{json_tokens, items_tokens, members_tokens, HasNumber
 use Rattle.json.specs.Tree.{MembersHaveNumbers}
 use Rattle.json.proofs.Unique.Spelling.{tokens-document}
 use Rattle.jp_doc.specs.Json.{Json}
-use Rattle.jp_doc.specs.Reading.{max_line}
-use Rattle.jp_number.specs.declared.numbers.Numbers.TheVariants.{Decimals}
-use Rattle.jp_doc.specs.ReadingIn.{max_tokens, has_long_number, items_have_long_number}
-use Rattle.jp_doc.specs.ReadingIn.{members_have_long_number, document_of, tree_reading, reading_in}
+use Rattle.jp_doc.specs.Reading.{unless_long}
+use Rattle.jp_doc.specs.ReadingIn.{has_long_number, items_have_long_number, members_have_long_number}
+use Rattle.jp_doc.specs.ReadingIn.{document_of, tree_reading}
 use Rattle.jp_doc.specs.Tree.{tree_of, text_number, tree_json}
 use Rattle.jp_doc.specs.declared.fault.DocFault.{DocFault}
-use Rattle.jp_doc.specs.declared.fault.DocFault.TheVariants.{Unreadable, LongNumber, LongArray}
-use Rattle.jp_doc.proofs.ReadingInLaws.{value_by_tree}
+use Rattle.jp_doc.specs.declared.fault.DocFault.TheVariants.{Unreadable, LongNumber}
 use Rattle.jp_doc.proofs.TreeNesting.{no_tree, tree_has_numbers}
 use Rattle.jp_flat.specs.inner.Nesting.{nests_from}
 use Rattle.jp_flat.specs.inner.Rows.{are_short, pass_answer}
@@ -70,11 +67,10 @@ all_rows line j e h =
 -- ---- the answer
 
 by_tree : (line : List ℕ) (o : Option text.Json) → IsUtf8 line → tree_of line ≡ o
-    → tree_reading line ≡ document_of o (length (tokens line))
+    → tree_reading line ≡ document_of o
 by_tree line o u e =
-    ap (λ b. if b then document_of (tree_of line) (length (tokens line)) else Err Unreadable)
-    (is_utf8-from_IsUtf8 line u)
-    ∙ ap (λ t. document_of t (length (tokens line))) e
+    ap (λ b. if b then document_of (tree_of line) else Err Unreadable) (is_utf8-from_IsUtf8 line u)
+    ∙ ap document_of e
 
 turned : (other : Bool) (x y : Result Json DocFault)
     → (if other then x else y) ≡ (if (not other && true) then y else x)
@@ -83,17 +79,15 @@ turned false x y = refl
 
 answer_if : (nests : Bool) (line : List ℕ) (j : text.Json) → IsUtf8 line → text.document line ≡ Some j
     → nests_from 0 (tokens line) ≡ nests
-    → tree_reading line ≡ (if nests then (if are_short (tokens line) then
-    (if nat_lt max_tokens (length (tokens line)) then Err LongArray else Ok (tree_json j))
+    → tree_reading line ≡ (if nests then (if are_short (tokens line) then unless_long (tree_json j)
     else Err LongNumber) else Err Unreadable)
 answer_if true line j u e is =
     let found : tree_of line ≡ Some j =
     tree_is line ∙ ap (λ b. if b then text.document line else None) is ∙ e in
     by_tree line (Some j) u found
-    ∙ turned (has_long_number j) (Err LongNumber)
-    (if nat_lt max_tokens (length (tokens line)) then Err LongArray else Ok (tree_json j))
-    ∙ ap (λ b. if b then (if nat_lt max_tokens (length (tokens line)) then Err LongArray
-    else Ok (tree_json j)) else Err LongNumber) (sym (all_rows line j e (tree_has_numbers line j found)))
+    ∙ turned (has_long_number j) (Err LongNumber) (unless_long (tree_json j))
+    ∙ ap (λ b. if b then unless_long (tree_json j) else Err LongNumber)
+    (sym (all_rows line j e (tree_has_numbers line j found)))
 answer_if false line j u e is =
     by_tree line None u (tree_is line ∙ ap (λ b. if b then text.document line else None) is)
 
@@ -105,8 +99,3 @@ answer_is line j u e = answer_if (nests_from 0 (tokens line)) line j u e refl
 -- of one that it does not read
 pub none_is : (line : List ℕ) → IsUtf8 line → text.document line ≡ None → tree_reading line ≡ Err Unreadable
 none_is line u e = by_tree line None u (no_tree line e)
-
--- and what is read so is what is read with decimals
-pub value_is_read : (line : List ℕ) (j : text.Json) (v : Json) → length line ≤ max_line → IsUtf8 line
-    → text.document line ≡ Some j → pass_answer (tokens line) j ≡ Ok v → reading_in Decimals line ≡ Ok v
-value_is_read line j v short u e h = value_by_tree line v short (answer_is line j u e ∙ h)

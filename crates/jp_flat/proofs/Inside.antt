@@ -19,8 +19,8 @@ use Rattle.jp_flat_nodes.specs.declared.node.FlatNode.{FlatNode}
 use Rattle.jp_flat_nodes.specs.declared.node.FlatNode.TheVariants.{Object, EndObject, Array, EndArray, Key}
 use Rattle.jp_flat_nodes.specs.declared.node.FlatNode.TheVariants.{Text}
 use Rattle.jp_flat_nodes.specs.declared.node.FlatNode.TheVariants.{Number, Truth, Null}
-use Rattle.jp_flat.specs.inner.Plain.{is_flat, max_tokens, is_fit, items_are_fit}
-use Rattle.jp_doc.specs.Reading.{max_items}
+use Rattle.jp_flat.specs.inner.Plain.{is_flat, is_fit, items_are_fit}
+use Rattle.jp_doc.specs.Reading.{max_line}
 use Rattle.jp_flat.specs.Value.{item_count}
 use Rattle.jp_flat.proofs.Kept as kept
 use Rattle.jp_flat.proofs.Numbers.{both}
@@ -34,7 +34,7 @@ pub record InItems (ts : List Token) : Type 0 where
   pub rest : List Token
   pub spelled : ts ≡ items_tokens source ++ rest
   pub nests : suc (tree.items_depth source) ≤ 127
-  pub few : suc (length (items_tokens source)) ≤ max_tokens
+  pub few : suc (length (items_tokens source)) ≤ max_line
   pub fit : items_are_fit source ≡ true
 
 tail_of : (t u : Token) (ts us : List Token) → t ∷ ts ≡ u ∷ us → ts ≡ us
@@ -47,7 +47,7 @@ array_inside ts f js e = record {
   rest = f.rest;
   spelled = ap (drop 1) (f.spelled ∙ ap (λ j. json_tokens j ++ f.rest) e);
   nests = subst (λ j. tree.depth j ≤ 127) e f.nests;
-  few = subst (λ j. length (json_tokens j) ≤ max_tokens) e f.few;
+  few = subst (λ j. length (json_tokens j) ≤ max_line) e f.few;
   fit = subst (λ j. is_fit j ≡ true) e f.fit;
 }
 
@@ -82,11 +82,11 @@ pub array_is : (ts : List Token) (i : InItems ts)
 unfolding array_around
 array_is ts i = value_is (Token.begin_array ∷ ts) (array_around ts i)
 
--- an array has no more items than the greatest number
+-- an array has no more items than a line has bytes
 pub few_items : (ts : List Token) → is_flat (Token.begin_array ∷ ts) ≡ true
-    → item_count (value_at (Token.begin_array ∷ ts)) ≤ max_items
+    → item_count (value_at (Token.begin_array ∷ ts)) ≤ max_line
 few_items ts h =
-    kept.few_items (value_at (Token.begin_array ∷ ts)) max_items
+    kept.few_items (value_at (Token.begin_array ∷ ts)) max_line
     (kept.flat_is_short (Token.begin_array ∷ ts) h)
 
 -- the first item, and those behind it
@@ -100,7 +100,7 @@ pub item_here : (ts : List Token) (i : InItems ts) (j : text.Json) (js : text.It
     → Flat ts
 item_here ts i j js e =
     let sum = length-append (json_tokens j) (items_tokens js) in
-    let few = subst (λ s. suc (length (items_tokens s)) ≤ max_tokens) e i.few in
+    let few = subst (λ s. suc (length (items_tokens s)) ≤ max_line) e i.few in
     let nests = subst (λ s. suc (tree.items_depth s) ≤ 127) e i.nests in
     let sound = subst (λ s. items_are_fit s ≡ true) e i.fit in
     record {
@@ -117,7 +117,7 @@ pub items_after : (ts : List Token) (i : InItems ts) (j : text.Json) (js : text.
     → InItems (items_tokens js ++ i.rest)
 items_after ts i j js e =
     let sum = length-append (json_tokens j) (items_tokens js) in
-    let few = subst (λ s. suc (length (items_tokens s)) ≤ max_tokens) e i.few in
+    let few = subst (λ s. suc (length (items_tokens s)) ≤ max_line) e i.few in
     let nests = subst (λ s. suc (tree.items_depth s) ≤ 127) e i.nests in
     let sound = subst (λ s. items_are_fit s ≡ true) e i.fit in
     record {

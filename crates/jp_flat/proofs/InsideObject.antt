@@ -22,7 +22,8 @@ use Rattle.jp_flat_nodes.specs.declared.node.FlatNode.{FlatNode}
 use Rattle.jp_flat_nodes.specs.declared.node.FlatNode.TheVariants as node
 use Rattle.jp_flat_nodes.specs.declared.node.FlatNode.TheVariants.{Object, EndObject, Array, EndArray, Key}
 use Rattle.jp_flat_nodes.specs.declared.node.FlatNode.TheVariants.{Number, Truth, Null}
-use Rattle.jp_flat.specs.inner.Plain.{is_flat, max_tokens, is_fit, members_are_fit}
+use Rattle.jp_doc.specs.Reading.{max_line}
+use Rattle.jp_flat.specs.inner.Plain.{is_flat, is_fit, members_are_fit}
 use Rattle.jp_flat.specs.Members.{entries_of, entries_read, entries_at, put_all}
 use Rattle.jp_flat.specs.Value.{members_value, entries}
 use Rattle.jp_flat.specs.declared.value.FlatMembers.{FlatMembers}
@@ -38,7 +39,7 @@ pub record InMembers (ts : List Token) : Type 0 where
   pub rest : List Token
   pub spelled : ts ≡ members_tokens source ++ rest
   pub nests : suc (tree.members_depth source) ≤ 127
-  pub few : suc (length (members_tokens source)) ≤ max_tokens
+  pub few : suc (length (members_tokens source)) ≤ max_line
   pub fit : members_are_fit source ≡ true
 
 object_inside : (ts : List Token) (f : Flat (Token.begin_object ∷ ts)) (ms : text.Members)
@@ -48,7 +49,7 @@ object_inside ts f ms e = record {
   rest = f.rest;
   spelled = ap (drop 1) (f.spelled ∙ ap (λ j. json_tokens j ++ f.rest) e);
   nests = subst (λ j. tree.depth j ≤ 127) e f.nests;
-  few = subst (λ j. length (json_tokens j) ≤ max_tokens) e f.few;
+  few = subst (λ j. length (json_tokens j) ≤ max_line) e f.few;
   fit = subst (λ j. is_fit j ≡ true) e f.fit;
 }
 
@@ -180,7 +181,7 @@ split_members ts us after k h e link =
     let i = in_members ts h in
     let one = one_more ts us i k e in
     let sum = length-append (json_tokens one.source) (members_tokens one.others) in
-    let few = subst (λ s. suc (length (members_tokens s)) ≤ max_tokens) one.is i.few in
+    let few = subst (λ s. suc (length (members_tokens s)) ≤ max_line) one.is i.few in
     let nests = subst (λ s. suc (tree.members_depth s) ≤ 127) one.is i.nests in
     let sound = subst (λ s. members_are_fit s ≡ true) one.is i.fit in
     let a = both (is_utf8 k) _ sound in

@@ -1,3 +1,4 @@
+pub mod FewTokens
 pub mod Good
 pub mod Numbers
 pub mod PlainTokens
@@ -26,3 +27,5 @@ pub mod Opening
 pub mod Pieces
 pub mod Close
 pub mod ReadNodes
+pub mod PrintedTrees
+pub mod LongArrays

@@ -1,13 +1,11 @@
 -- Tokens that are plain are those of a value that the JSON crate reads, and that is plain.
 use Rattle.std.proofs.Common.{◌≡◌, ℕ, suc, ◌+◌, ◌-◌, ◌<◌, ◌≤◌, Bool, true, false, ◌||◌, List}
 use Rattle.std.proofs.Common.{◌++◌, length, Some, option_map, refl, ap}
-use Rattle.std.proofs.Common.{subst, arith, append_assoc, length-append, Ordering, Less, Equal, Greater}
-use Rattle.std.proofs.Common.{nat_cmp}
-use Rattle.std.proofs.Common.{le-leb, le-ltb}
-use Rattle.std.proofs.lemmas.Bool.{ltb-true, leb-true}
+use Rattle.std.proofs.Common.{subst, arith, append_assoc, Ordering, Less, Equal, Greater, nat_cmp}
+use Rattle.std.proofs.lemmas.Bool.{ltb-true}
 use Rattle.std.specs.Cmp.Lexicographic.{slice_cmp}
 use Rattle.std.specs.Ordering.{match_ordering}
-use Rattle.std.specs.Prelude.{nat_lt, nat_le}
+use Rattle.std.specs.Prelude.{nat_lt}
 use Rattle.std.specs.Str.{is_utf8}
 use Rattle.json.specs.Token.{Token}
 use Rattle.json.specs.Json as text
@@ -18,9 +16,7 @@ use Rattle.serde_json.specs.Data.{object, Items, no_items, item, Members, no_mem
 use Rattle.serde_json.specs.Find.{is_float}
 use Rattle.serde_json.specs.Read.{of_json, of_items, of_members}
 use Rattle.serde_json.specs.Written.{has_float, items_have_float, members_have_float}
-use Rattle.jp_doc.specs.Json.{item_list, json_of, items_of, members_of}
-use Rattle.jp_doc.specs.Reading.{max_items, has_long_array, items_have_long_array, members_have_long_array}
-use Rattle.jp_flat.specs.inner.Plain.{max_tokens, is_whole_text, is_plain_from, is_plain, items_are_plain}
+use Rattle.jp_flat.specs.inner.Plain.{is_whole_text, is_plain_from, is_plain, items_are_plain}
 use Rattle.jp_flat.specs.inner.Plain.{members_are_plain}
 use Rattle.jp_flat.proofs.Good.{is_whole, is_good, items_are_good, members_are_good}
 use Rattle.jp_flat.proofs.Numbers.{both, both_back, whole_text}
@@ -134,7 +130,6 @@ record MadeItems (js : text.Items) : Type 0 where
   found : Items
   made : of_items js ≡ Some found
   plain : items_are_good found ≡ true
-  few : length (item_list (items_of found)) < length (items_tokens js)
 
 record MadeMembers (ms : text.Members) (old : Members) : Type 0 where
   found : Members
@@ -142,51 +137,40 @@ record MadeMembers (ms : text.Members) (old : Members) : Type 0 where
   plain : members_are_good found ≡ true
 
 mutual
-  -- the tokens are as many at most as an array may have items
-  pub make : (j : text.Json) → length (json_tokens j) ≤ max_tokens → is_plain j ≡ true → Made j
-  make text.null few p = record { found = null; made = refl; plain = refl }
-  make (text.boolean b) few p = record { found = boolean b; made = refl; plain = refl }
-  make (text.number s) few p =
+  pub make : (j : text.Json) → is_plain j ≡ true → Made j
+  make text.null p = record { found = null; made = refl; plain = refl }
+  make (text.boolean b) p = record { found = boolean b; made = refl; plain = refl }
+  make (text.number s) p =
       let w = whole_text s p in
       record { found = number w.number; made = ap (option_map number) w.read; plain = w.whole }
-  make (text.string s) few p = record { found = string s; made = refl; plain = p }
-  make (text.array js) few p =
-      let m = make_items js (omega arith) p in
-      record {
-        found = array m.found;
-        made = ap (option_map array) m.made;
-        plain = both_back _ _ (le-leb _ max_items (omega (arith, m.few))) m.plain;
-      }
-  make (text.object ms) few p =
-      let m = make_members ms no_members (omega arith) p refl in
+  make (text.string s) p = record { found = string s; made = refl; plain = p }
+  make (text.array js) p =
+      let m = make_items js p in
+      record { found = array m.found; made = ap (option_map array) m.made; plain = m.plain }
+  make (text.object ms) p =
+      let m = make_members ms no_members p refl in
       record { found = object m.found; made = ap (option_map object) m.made; plain = m.plain }
 
-  make_items : (js : text.Items) → length (items_tokens js) ≤ max_tokens → items_are_plain js ≡ true
-      → MadeItems js
-  make_items text.no_items few p =
-      record { found = no_items; made = refl; plain = refl; few = omega arith }
-  make_items (text.item j js) few p =
+  make_items : (js : text.Items) → items_are_plain js ≡ true → MadeItems js
+  make_items text.no_items p = record { found = no_items; made = refl; plain = refl }
+  make_items (text.item j js) p =
       let b = both (is_plain j) _ p in
-      let both_lengths = length-append (json_tokens j) (items_tokens js) in
-      let m = make j (omega (arith, both_lengths)) b.0 in
-      let n = make_items js (omega (arith, both_lengths)) b.1 in
+      let m = make j b.0 in
+      let n = make_items js b.1 in
       record {
         found = item m.found n.found;
         made = rw (m.made, n.made) refl;
         plain = both_back _ _ m.plain n.plain;
-        few = omega (arith, both_lengths, some_token j, n.few);
       }
 
-  make_members : (ms : text.Members) (found : Members) → length (members_tokens ms) ≤ max_tokens
-      → members_are_plain ms ≡ true → members_are_good found ≡ true → MadeMembers ms found
-  make_members text.no_members found few p q = record { found = found; made = refl; plain = q }
-  make_members (text.member k j ms) found few p q =
+  make_members : (ms : text.Members) (found : Members) → members_are_plain ms ≡ true
+      → members_are_good found ≡ true → MadeMembers ms found
+  make_members text.no_members found p q = record { found = found; made = refl; plain = q }
+  make_members (text.member k j ms) found p q =
       let a = both (is_utf8 k) _ p in
       let b = both (is_plain j) _ a.1 in
-      let both_lengths = length-append (json_tokens j) (members_tokens ms) in
-      let m = make j (omega (arith, both_lengths)) b.0 in
-      let n = make_members ms (put k m.found found) (omega (arith, both_lengths)) b.1
-      (put_plain k m.found found a.0 m.plain q) in
+      let m = make j b.0 in
+      let n = make_members ms (put k m.found found) b.1 (put_plain k m.found found a.0 m.plain q) in
       record { found = n.found; made = rw m.made n.made; plain = n.plain }
 
 -- ---- what plain data has
@@ -205,9 +189,7 @@ mutual
   whole_numbers (boolean b) h = refl
   whole_numbers (number n) h = no_float n h
   whole_numbers (string s) h = refl
-  whole_numbers (array ds) h =
-      let b = both (nat_le (length (item_list (items_of ds))) max_items) _ h in
-      whole_items ds b.1
+  whole_numbers (array ds) h = whole_items ds h
   whole_numbers (object ms) h = whole_members ms h
 
   whole_items : (ds : Items) → items_are_good ds ≡ true → items_have_float ds ≡ false
@@ -222,30 +204,3 @@ mutual
       let a = both (is_utf8 k) _ h in
       let b = both (is_good d) _ a.1 in
       neither (has_float d) _ (whole_numbers d b.0) (whole_members ms b.1)
-
-mutual
-  pub short_arrays : (d : Data) → is_good d ≡ true → has_long_array max_items (json_of d) ≡ false
-  short_arrays null h = refl
-  short_arrays (boolean b) h = refl
-  short_arrays (number n) h = refl
-  short_arrays (string s) h = refl
-  short_arrays (array ds) h =
-      let b = both (nat_le (length (item_list (items_of ds))) max_items) _ h in
-      neither (nat_lt max_items (length (item_list (items_of ds)))) _ (le-ltb max_items _ (leb-true _ _ b.0))
-      (short_items ds b.1)
-  short_arrays (object ms) h = short_members ms h
-
-  short_items : (ds : Items) → items_are_good ds ≡ true
-      → items_have_long_array max_items (items_of ds) ≡ false
-  short_items no_items h = refl
-  short_items (item d ds) h =
-      let b = both (is_good d) _ h in
-      neither (has_long_array max_items (json_of d)) _ (short_arrays d b.0) (short_items ds b.1)
-
-  short_members : (ms : Members) → members_are_good ms ≡ true
-      → members_have_long_array max_items (members_of ms) ≡ false
-  short_members no_members h = refl
-  short_members (member k d ms) h =
-      let a = both (is_utf8 k) _ h in
-      let b = both (is_good d) _ a.1 in
-      neither (has_long_array max_items (json_of d)) _ (short_arrays d b.0) (short_members ms b.1)

@@ -1,6 +1,6 @@
 -- A line that was read in one pass or laid, and what it is read as.
 use Rattle.std.proofs.Common.{◌≡◌, ℕ, ◌<◌, ◌≤◌, ◌^◌, Bool, true, false, not, ◌&&◌, ◌==◌, List, [], ◌++◌}
-use Rattle.std.proofs.Common.{length, drop, None, IsSome, Ok, refl, sym, ap, ◌∙◌, subst, arith}
+use Rattle.std.proofs.Common.{length, drop, None, IsSome, refl, sym, ap, ◌∙◌, subst, arith}
 use Rattle.std.proofs.Common.{if◌then◌else◌, append_assoc, append-nil, lt-ltb, le-leb}
 use Rattle.std.proofs.lemmas.Bool.{leb-true}
 use Rattle.std.proofs.lemmas.List.{length-map}
@@ -15,17 +15,17 @@ use Rattle.json.specs.Token.{Token}
 use Rattle.json.specs.Tree.{json_tokens, items_tokens, members_tokens}
 use Rattle.json.proofs.Numbered.{ArePrintableOrBad-tokens}
 use Rattle.json.proofs.Unique.Spelling.{tokens-document}
-use Rattle.jp_doc.specs.Reading.{max_line, reading}
+use Rattle.jp_doc.specs.Reading.{max_line, unless_long, reading}
 use Rattle.jp_doc.specs.ReadingIn.{reading_in}
 use Rattle.jp_doc.proofs.LineTexts.{AreTexts, tokens_are_texts}
-use Rattle.jp_flat.specs.Document.{grammar_reading}
 use Rattle.jp_flat.specs.Flat.{value_at}
 use Rattle.jp_flat.specs.inner.Held.{IsHeld, IsReadAs}
 use Rattle.jp_flat.specs.inner.Plain.{is_flat, is_plain, items_are_plain, members_are_plain, is_plain_from}
-use Rattle.jp_flat.specs.inner.Plain.{is_whole_text, is_unsigned_text, is_minus_text, max_tokens}
+use Rattle.jp_flat.specs.inner.Plain.{is_whole_text, is_unsigned_text, is_minus_text}
 use Rattle.jp_flat.specs.inner.Rows.{pass_fault}
 use Rattle.jp_flat.proofs.Close.{none_is_long}
-use Rattle.jp_flat.proofs.Decimal.{value_of_pass, short_passes, value_told}
+use Rattle.jp_flat.proofs.Decimal.{value_of_pass, short_passes}
+use Rattle.jp_flat.proofs.FewTokens.{few_tokens}
 use Rattle.jp_flat.proofs.Numbers.{below, both, both_back}
 use Rattle.jp_flat.proofs.Pieces.{pieces_are}
 use Rattle.jp_flat.proofs.Reading.{of_tree, flat_is, read_flat}
@@ -107,11 +107,12 @@ plain_line line nodes r u =
 
 -- ---- nodes that are the tokens of a line
 
-few_tokens : (line bytes : List ℕ) (nodes : List FlatNode) → tokens_at bytes nodes ≡ tokens line
-    → length nodes ≤ 16777218 → length (tokens line) ≤ max_tokens
-few_tokens line bytes nodes are few = omega (arith, ap length are, length-map nodes (token_at bytes), few)
+pub few_nodes : (line bytes : List ℕ) (nodes : List FlatNode) → tokens_at bytes nodes ≡ tokens line
+    → length line ≤ max_line → length nodes ≤ 268435456
+few_nodes line bytes nodes are short =
+    omega (arith, ap length are, length-map nodes (token_at bytes), few_tokens line, short)
 
-held : (line bytes : List ℕ) (nodes : List FlatNode) → tokens_at bytes nodes ≡ tokens line → IsUtf8 line
+pub held : (line bytes : List ℕ) (nodes : List FlatNode) → tokens_at bytes nodes ≡ tokens line → IsUtf8 line
     → AreLinked (tokens line) nodes → AreWithin (length bytes) nodes → is_flat (tokens line) ≡ true
     → IsHeld bytes nodes
 held line bytes nodes are u linked within flat = record {
@@ -126,60 +127,48 @@ pub read_whole : (line : List ℕ) (nodes : List FlatNode) → IsRead false line
     → length line ≤ max_line
     → IsReadAs (reading line) line nodes
 read_whole line nodes r u short =
-    let flat = of_tree line r.value r.is u short (few_tokens line line nodes r.are r.few) r.nests
-    (plain_line line nodes r u) in
+    let flat = of_tree line r.value r.is u short r.nests (plain_line line nodes r u) in
     record {
       few = r.few;
       held = held line line nodes r.are u r.linked r.within (flat_is (tokens line) flat.flat);
-      value = flat.reads ∙ ap (λ ts. Ok (value_at ts)) (sym r.are);
+      value = flat.reads ∙ ap (λ ts. unless_long (value_at ts)) (sym r.are);
     }
 
 pub read_grammar : (line : List ℕ) (nodes : List FlatNode) → IsRead true line nodes → IsUtf8 line
-    → length line ≤ max_line → IsReadAs (grammar_reading line) line nodes
+    → length line ≤ max_line → IsReadAs (reading_in Decimals line) line nodes
 read_grammar line nodes r u short =
-    let few = few_tokens line line nodes r.are r.few in
     let value = value_of_pass line u (subst IsSome (sym r.is) refl) short
-    (short_passes line r.value r.is r.nests (none_is_long r.value r.spelled r.numbers) few) in
+    (short_passes line r.value r.is r.nests (none_is_long r.value r.spelled r.numbers)) in
     record {
       few = r.few;
       held = held line line nodes r.are u r.linked r.within value.0;
-      value = value.1 ∙ ap (λ ts. Ok (value_at ts)) (sym r.are);
+      value = value.1 ∙ ap (λ ts. unless_long (value_at ts)) (sym r.are);
     }
 
 -- a line that the kit has read, and whose nodes were laid
 pub laid_whole : (line bytes : List ℕ) (nodes : List FlatNode) (tape : List Token) → tape ≡ tokens line
     → IsSome (text.document line) → tokens_at bytes nodes ≡ tape → AreLinked tape nodes
-    → AreWithin (length bytes) nodes → IsUtf8 line → length line ≤ max_line → length tape ≤ max_tokens
+    → AreWithin (length bytes) nodes → IsUtf8 line → length line ≤ max_line
     → is_plain_from 0 tape ≡ true → IsReadAs (reading line) bytes nodes
-laid_whole line bytes nodes tape is some same linked within u short few plain =
+laid_whole line bytes nodes tape is some same linked within u short plain =
     let are = same ∙ is in
-    let flat = read_flat line some u short (subst (λ ts. length ts ≤ max_tokens) is few)
-    (subst (λ ts. is_plain_from 0 ts ≡ true) is plain) in
+    let flat = read_flat line some u short (subst (λ ts. is_plain_from 0 ts ≡ true) is plain) in
     record {
-      few = omega (arith, few, ap length same, length-map nodes (token_at bytes));
+      few = few_nodes line bytes nodes are short;
       held = held line bytes nodes are u (subst (λ ts. AreLinked ts nodes) is linked) within
           (flat_is (tokens line) flat.flat);
-      value = flat.reads ∙ ap (λ ts. Ok (value_at ts)) (sym are);
+      value = flat.reads ∙ ap (λ ts. unless_long (value_at ts)) (sym are);
     }
 
 pub laid_grammar : (line bytes : List ℕ) (nodes : List FlatNode) (tape : List Token) → tape ≡ tokens line
     → IsSome (text.document line) → tokens_at bytes nodes ≡ tape → AreLinked tape nodes
-    → AreWithin (length bytes) nodes → IsUtf8 line → length line ≤ max_line → length tape ≤ max_tokens
-    → pass_fault tape ≡ None → IsReadAs (grammar_reading line) bytes nodes
-laid_grammar line bytes nodes tape is some same linked within u short few none =
+    → AreWithin (length bytes) nodes → IsUtf8 line → length line ≤ max_line
+    → pass_fault tape ≡ None → IsReadAs (reading_in Decimals line) bytes nodes
+laid_grammar line bytes nodes tape is some same linked within u short none =
     let are = same ∙ is in
     let value = value_of_pass line u some short (ap pass_fault (sym is) ∙ none) in
     record {
-      few = omega (arith, few, ap length same, length-map nodes (token_at bytes));
+      few = few_nodes line bytes nodes are short;
       held = held line bytes nodes are u (subst (λ ts. AreLinked ts nodes) is linked) within value.0;
-      value = value.1 ∙ ap (λ ts. Ok (value_at ts)) (sym are);
+      value = value.1 ∙ ap (λ ts. unless_long (value_at ts)) (sym are);
     }
-
--- what the grammar alone reads is read with decimals
-pub told : (line bytes : List ℕ) (nodes : List FlatNode) → IsReadAs (grammar_reading line) bytes nodes
-    → IsReadAs (reading_in Decimals line) bytes nodes
-told line bytes nodes r = record {
-  few = r.few;
-  held = r.held;
-  value = value_told line _ r.value;
-}

@@ -78,7 +78,7 @@ number_if : (b : Bool) (s : List ℕ) → IsNumber s → is_whole_text s ≡ b
 number_if true s grammar e = whole_read (number_of s) (whole_has_row s e)
 number_if false s grammar e = other_read s (sym (tells_row s grammar) ∙ e)
 
-number_read : (s : List ℕ) → IsNumber s → is_readable s ≡ is_some (number_of s)
+pub number_read : (s : List ℕ) → IsNumber s → is_readable s ≡ is_some (number_of s)
 number_read s grammar = sym (number_if (is_whole_text s) s grammar refl)
 
 -- ---- the same of a tree
@@ -148,7 +148,7 @@ data_reads : (line : List ℕ) (j : text.Json) (o : Option Data) → IsUtf8 line
 data_reads line j o u short e made =
     crate_reads line u short ∙ ap (λ t. document_from (option_and_then of_json t)) e ∙ ap document_from made
 
-is_read : (line : List ℕ) (j : text.Json) → tree_of line ≡ Some j
+pub is_read : (line : List ℕ) (j : text.Json) → tree_of line ≡ Some j
     → are_readable (tokens line) ≡ (is_some (of_json j) && true)
 is_read line j e =
     ap are_readable ((spelled_tree line j e).0 ∙ sym (append-nil (json_tokens j)))
@@ -203,6 +203,10 @@ fault_some : (o : Option text.Json) (line : List ℕ) (f : DocFault) → IsUtf8 
     → (reading line ≡ Err f) × (f ≢ Memory)
 fault_some None line f u short e some is = absurd (cc)
 fault_some (Some j) line f u short e some is = fault_if _ _ _ line j f u short e refl refl refl is
+
+pub fault_of_nodes : (line : List ℕ) (f : DocFault) → IsUtf8 line → IsSome (text.document line)
+    → length line ≤ max_line → whole_fault (tokens line) ≡ Some f → reading line ≡ Err f
+fault_of_nodes line f u made short is = (fault_some (text.document line) line f u short refl made is).0
 
 told_if : (o : Option DocFault) (line : List ℕ) (room : Room) → IsUtf8 line → IsSome (text.document line)
     → length line ≤ max_line → whole_fault (tokens line) ≡ o → IsFlatAnswer (told o) Whole line room

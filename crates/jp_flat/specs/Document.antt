@@ -1,10 +1,7 @@
--- The value of a flat document, and what a line is read as by the grammar alone.
-use Rattle.std.specs.Prelude.{ℕ, nat_lt, List, length, Result, Err, if◌then◌else◌}
+-- The value of a flat document, or the fault in its place.
+use Rattle.std.specs.Prelude.{List, Result, Ok, Err}
 use Rattle.jp_doc.specs.Json.{Json}
-use Rattle.jp_doc.specs.Reading.{max_line}
-use Rattle.jp_doc.specs.ReadingIn.{tree_reading}
 use Rattle.jp_doc.specs.declared.fault.DocFault.{DocFault}
-use Rattle.jp_doc.specs.declared.fault.DocFault.TheVariants.{LongLine}
 use Rattle.json.specs.Token.{Token}
 use Rattle.jp_flat.specs.Flat.{value_at}
 use Rattle.jp_flat_nodes.specs.Nodes.{tokens_at}
@@ -17,6 +14,7 @@ document_tokens d = tokens_at d.text.now d.nodes.now
 abbrev pub document_value : FlatDocument → Json
 document_value d = value_at (document_tokens d)
 
--- what a line of any length is read as by the grammar alone
-abbrev pub grammar_reading : List ℕ → Result Json DocFault
-grammar_reading line = if nat_lt max_line (length line) then Err LongLine else tree_reading line
+-- a document's value, or the fault
+abbrev pub document_answer : Result FlatDocument DocFault → Result Json DocFault
+document_answer (Ok d) = Ok (document_value d)
+document_answer (Err f) = Err f

@@ -1,7 +1,6 @@
 pub mod Digits
 pub mod Flat
 pub mod Document
-pub mod LineDocument
 pub mod Value
 pub mod Members
 pub mod Gathered

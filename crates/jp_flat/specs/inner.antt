@@ -8,3 +8,4 @@ pub mod Nesting
 pub mod Rows
 pub mod Held
 pub mod Placed
+pub mod Printed

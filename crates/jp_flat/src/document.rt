@@ -11,13 +11,12 @@ use jp_flat_nodes::FlatNode;
 use std::str;
 
 /// A document as a flat list of nodes, which lie in the buffers of a reader. Their texts stand in the line,
-/// or
-/// in a buffer of the reader where the line writes some of them with escapes.
+/// or in a buffer of the reader where the line writes some of them with escapes.
 #[derive(Drop)]
 pub struct FlatDocument<'a> {
     text: &'a [u8],
     nodes: &'a [FlatNode],
-    ghost few: { length nodes.now ≤ 16777218 },
+    ghost few: { length nodes.now ≤ 268435456 },
     ghost held: { ∥ IsHeld text.now nodes.now ∥₁ },
 }
 
@@ -27,7 +26,7 @@ impl<'a> FlatDocument<'a> {
 
     /// The document of these nodes.
     pub(crate) fn new(text: &'a [u8], nodes: &'a [FlatNode]) -> FlatDocument<'a>
-        requires few { length nodes.now ≤ 16777218 }
+        requires few { length nodes.now ≤ 268435456 }
         requires held { IsHeld text.now nodes.now }
         ensures text { result.text.now ≡ text.now }
         ensures nodes { result.nodes.now ≡ nodes.now }

@@ -7,10 +7,10 @@ ghost use Rattle.json.specs.Lex.{tokens};
 ghost use Rattle.json.specs.Token.{begin_array, end_array, end_object, number, key, string};
 ghost use Rattle.jp_doc.specs.Json.{null, truth, number, text, array, object};
 ghost use Rattle.jp_doc.specs.Json.{no_items, add_item, no_members, add_member};
+ghost use Rattle.jp_doc.specs.ReadingIn.{tree_reading};
 ghost use Rattle.jp_doc.specs.declared.fault.DocFault.TheVariants.{Unreadable, LongNumber};
 ghost use Rattle.jp_number.specs.Number.{whole, written};
 ghost use Rattle.jp_flat.specs.Digits.{whole_value};
-ghost use Rattle.jp_flat.specs.Document.{grammar_reading};
 ghost use Rattle.jp_flat.specs.Flat.{value_at};
 ghost use Rattle.jp_flat.specs.inner.Nesting.{nests_from};
 ghost use Rattle.jp_flat.specs.inner.Plain.{is_flat};
@@ -89,15 +89,15 @@ fn what_a_pass_answers()
         ≡ Err Unreadable }
 {}
 
-// What a line of any length is read as by the grammar alone.
+// What a line is read as by the grammar alone.
 #[tactic(auto, unfolding(crate::proofs::OnLiterals::flat_on_literals))]
 fn lines_by_the_grammar()
-    ensures fraction { grammar_reading (codes "9.90") ≡ Ok (number (written (codes "9.90"))) }
-    ensures exponent { grammar_reading (codes "1e2") ≡ Ok (number (written (codes "1e2"))) }
-    ensures minus_zero { grammar_reading (codes "-0") ≡ Ok (number (written (codes "-0"))) }
-    ensures whole_number { grammar_reading (codes "-7") ≡ Ok (number (whole (negsuc 6))) }
-    ensures leading_zero { grammar_reading (codes "01") ≡ Err Unreadable }
-    ensures long_exponent { grammar_reading (codes "1e0000000001") ≡ Err LongNumber }
+    ensures fraction { tree_reading (codes "9.90") ≡ Ok (number (written (codes "9.90"))) }
+    ensures exponent { tree_reading (codes "1e2") ≡ Ok (number (written (codes "1e2"))) }
+    ensures minus_zero { tree_reading (codes "-0") ≡ Ok (number (written (codes "-0"))) }
+    ensures whole_number { tree_reading (codes "-7") ≡ Ok (number (whole (negsuc 6))) }
+    ensures leading_zero { tree_reading (codes "01") ≡ Err Unreadable }
+    ensures long_exponent { tree_reading (codes "1e0000000001") ≡ Err LongNumber }
 {}
 
 // The fault that a pass over the tokens finds.

@@ -1,9 +1,8 @@
 //! Laws of the definitions, each proved for every list of members and every value of a flat document.
 
-ghost use Rattle.std.specs.Prelude.{◌≡◌, List, None, false};
+ghost use Rattle.std.specs.Prelude.{◌≡◌, List, None};
 ghost use Rattle.jp_doc.specs.Json.{Text, Json, Members, object, no_members};
 ghost use Rattle.jp_doc.specs.Location.{member_at};
-ghost use Rattle.jp_doc.specs.Reading.{max_items, has_long_array};
 ghost use Rattle.jp_doc.specs.Rising.{IsRising};
 ghost use Rattle.jp_doc.specs.Tree.{put_member};
 ghost use Rattle.jp_flat.specs.Gathered.{NamesRise};
@@ -38,8 +37,7 @@ pub fn only_members()
 {}
 
 /// What is true of every value of a flat document, as it is of those of `Document::read`.
-#[tactic(auto, using(crate::proofs::Kept::value_rises, crate::proofs::Kept::value_is_short))]
+#[tactic(auto, using(crate::proofs::Kept::value_rises))]
 pub fn values_of_flat_documents()
-    ensures short_arrays { (v : FlatValue) → has_long_array max_items (flat_value v) ≡ false }
     ensures rising_names { (v : FlatValue) → IsRising (flat_value v) }
 {}

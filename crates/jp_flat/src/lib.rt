@@ -11,10 +11,11 @@ pub mod laws;
 mod limits;
 mod line_reader;
 mod lines;
+mod long_arrays;
 mod nodes;
 mod value;
 
 pub use document::FlatDocument;
 pub use limits::MEMBERS_AT_FIRST;
-pub use line_reader::{LineDocument, LineReader};
+pub use line_reader::LineReader;
 pub use value::{FlatItems, FlatKind, FlatMember, FlatMembers, FlatNumber, FlatValue};

@@ -1,21 +1,24 @@
 //! The flat reading of a line.
 
-ghost use Rattle.std.specs.Prelude.{◌≡◌, ◌≤◌, Err, IfOk, MatchOption, MatchResult, length, map};
+ghost use Rattle.std.specs.Prelude.{◌≡◌, ◌≤◌, Ok, IfOk, OnOk, length, map};
 ghost use Rattle.json.specs.Tape.{node_token};
+ghost use Rattle.jp_doc.specs.Document as tree;
+ghost use Rattle.jp_doc.specs.Json.{Json};
 ghost use Rattle.jp_doc.specs.Reading.{max_line};
-ghost use Rattle.jp_flat.specs.Document.{document_value, grammar_reading};
+ghost use Rattle.jp_flat.specs.Document.{document_value};
 ghost use Rattle.jp_flat.specs.inner.Decimals.{whole_fault};
-ghost use Rattle.jp_flat.specs.inner.Filled.{texts_at, filled_value, IsFilled};
-ghost use Rattle.jp_flat.specs.inner.FlatAnswers.{IsFlatAnswer, told};
+ghost use Rattle.jp_flat.specs.inner.Filled.{texts_at, filled_value};
+ghost use Rattle.jp_flat.specs.inner.FlatAnswers.{IsFlatAnswer, told, told_over};
 ghost use Rattle.jp_flat.specs.inner.Held.{IsHeld, IsReadAs};
-ghost use Rattle.jp_number.specs.declared.numbers.Numbers.TheVariants.{Whole};
+ghost use Rattle.jp_flat.specs.inner.Printed.{IsPrinted};
+ghost use Rattle.jp_number.specs.declared.numbers.Numbers.TheVariants.{Whole, Decimals};
 
 use crate::decimals::has_decimal;
 use crate::document::FlatDocument;
 use crate::nodes::{are_plain, are_readable, fault_in};
 use bumpalo::Bump;
-use jp_doc::{DocFault, LONG_LINE, MAX_LINE};
-use jp_flat_nodes::{FlatNode, MAX_NODES, lay, read_decimal_line, read_line};
+use jp_doc::{DocFault, Document, LONG_LINE, MAX_LINE};
+use jp_flat_nodes::{FlatNode, lay, read_decimal_line, read_line};
 use json::{Error, Node, Scratch, Tape};
 use std::alloc::{AllocError, Global};
 
@@ -77,7 +80,8 @@ pub(crate) enum Texts {
 /// What the flat reading of a line says of it.
 #[derive(Clone, Copy, Drop)]
 pub(crate) enum FlatAnswer {
-    /// It holds a document, whose nodes fill the room, with their texts there.
+    /// It holds a document, unless some array of it is too long. Its nodes fill the room, with their texts
+    /// there.
     Filled(Texts),
     /// It has this fault.
     Faulty(DocFault),
@@ -113,9 +117,6 @@ fn lay_plain(text: &str, room: &mut Room) -> Result<FlatAnswer, AllocError>
             if !are_plain(tape.nodes()) {
                 return whole_answer(room.alloc, tape.nodes());
             }
-            if tape.len() > MAX_NODES {
-                return Ok(FlatAnswer::Open(None));
-            }
             // Without their escapes, texts take no more than the line.
             room.texts.clear();
             room.texts.reserve(text.len())?;
@@ -128,28 +129,77 @@ fn lay_plain(text: &str, room: &mut Room) -> Result<FlatAnswer, AllocError>
     }
 }
 
-/// Reads a line by the kit's reader, where numbers need not be whole, and lays its nodes, or tells its fault.
+/// What the nodes of a line say of it, where numbers need not be whole, and one of them is over the limits:
+/// the tree of whole numbers may have a value still, where a later member covers the number.
 ///
 /// `AllocError` if a growth was refused.
-fn lay_decimal(text: &str, room: &mut Room) -> Result<Option<DocFault>, AllocError>
+fn over_answer(alloc: Global, nodes: &[Node<'_>]) -> Result<FlatAnswer, AllocError>
+    ensures { IfOk result (λ a. a ≡ told_over (whole_fault (map node_token nodes.now))) }
+{
+    match whole_answer(alloc, nodes)? {
+        FlatAnswer::Faulty(_) => Ok(FlatAnswer::Faulty(DocFault::LongNumber)),
+        _ => Ok(FlatAnswer::Open(Some(DocFault::LongNumber))),
+    }
+}
+
+/// Reads a line by the kit's reader, where numbers need not be whole, and lays its nodes where they have no
+/// fault, or else tells what they say.
+///
+/// `AllocError` if a growth was refused.
+fn lay_decimal(text: &str, room: &mut Room) -> Result<FlatAnswer, AllocError>
     requires { length text.now ≤ max_line }
-    ensures { IfOk result (λ fault. MatchOption fault
-        (IsReadAs (grammar_reading text.now) room.new.texts.items room.new.nodes.items)
-        (λ f. grammar_reading text.now ≡ Err f)) }
+    ensures { IfOk result (λ a. IsFlatAnswer a Decimals text.now room.new) }
 {
     match Tape::parse(text, &mut room.scratch, Vec::new(&room.arena)) {
         Ok(tape) => {
-            if let Some(fault) = fault_in(tape.nodes()) {
-                return Ok(Some(fault));
+            match fault_in(tape.nodes()) {
+                Some(DocFault::LongNumber) => return over_answer(room.alloc, tape.nodes()),
+                Some(fault) => return Ok(FlatAnswer::Faulty(fault)),
+                None => {}
             }
             room.texts.clear();
             room.texts.reserve(text.len())?;
             lay(tape.nodes(), &mut room.texts, &mut room.nodes)?;
-            Ok(None)
+            Ok(FlatAnswer::Filled(Texts::InRoom))
         }
         Err(Error::OutOfMemory) => Err(AllocError),
         // A line of that length is not too long for the tape.
-        Err(_) => Ok(Some(DocFault::Unreadable)),
+        Err(_) => Ok(FlatAnswer::Faulty(DocFault::Unreadable)),
+    }
+}
+
+/// Fills the room with the nodes of a document that is a tree, by way of its compact text.
+///
+/// `AllocError` if a growth was refused, or where that text is longer than any line.
+pub(crate) fn lay_document(document: &Document, room: &mut Room) -> Result<(), AllocError>
+    ensures { OnOk result (IsReadAs (Ok (tree.document_value document.now))
+        room.new.texts.items room.new.nodes.items) }
+{
+    let text = document.root().to_string(room.alloc)?;
+    if text.len() > MAX_LINE {
+        return Err(AllocError);
+    }
+    lay_printed(&text, room)
+}
+
+/// Fills the room with the nodes of the compact text of a document.
+///
+/// `AllocError` if a growth was refused.
+fn lay_printed(text: &str, room: &mut Room) -> Result<(), AllocError>
+    requires printed { (v : Json) × IsPrinted text.now v }
+    ensures { (v : Json) → IsPrinted text.now v → OnOk result
+        (IsReadAs (Ok v) room.new.texts.items room.new.nodes.items) }
+{
+    room.begin(text.len());
+    match Tape::parse(text, &mut room.scratch, Vec::new(&room.arena)) {
+        Ok(tape) => {
+            room.texts.clear();
+            room.texts.reserve(text.len())?;
+            lay(tape.nodes(), &mut room.texts, &mut room.nodes)
+        }
+        Err(Error::OutOfMemory) => Err(AllocError),
+        // The kit reads what it writes.
+        Err(_) => unreachable!(),
     }
 }
 
@@ -174,39 +224,30 @@ pub(crate) fn fill(line: &[u8], room: &mut Room) -> Result<FlatAnswer, AllocErro
     lay_plain(text, room)
 }
 
-/// Fills the room with the nodes of a line and tells where their texts stand, where numbers need not be
-/// whole, or tells the fault of the line.
+/// The same, where numbers need not be whole.
 ///
 /// `AllocError` if a growth was refused.
-pub(crate) fn fill_decimal(
-    line: &[u8],
-    room: &mut Room,
-) -> Result<Result<Texts, DocFault>, AllocError>
-    ensures { IfOk result (λ r. MatchResult r
-        (λ t. IsFilled (grammar_reading line.now) t line.now room.new)
-        (λ f. grammar_reading line.now ≡ Err f)) }
+pub(crate) fn fill_decimal(line: &[u8], room: &mut Room) -> Result<FlatAnswer, AllocError>
+    ensures { IfOk result (λ a. IsFlatAnswer a Decimals line.now room.new) }
 {
     room.begin(line.len());
     if line.len() > MAX_LINE {
-        return Ok(Err(DocFault::LongLine));
+        return Ok(FlatAnswer::Faulty(DocFault::LongLine));
     }
     let Ok(text) = simdutf8::basic::from_utf8(line) else {
-        return Ok(Err(DocFault::Unreadable));
+        return Ok(FlatAnswer::Faulty(DocFault::Unreadable));
     };
     if read_decimal_line(line, &mut room.nodes) {
-        return Ok(Ok(Texts::InLine));
+        return Ok(FlatAnswer::Filled(Texts::InLine));
     }
-    match lay_decimal(text, room)? {
-        Some(fault) => Ok(Err(fault)),
-        None => Ok(Ok(Texts::InRoom)),
-    }
+    lay_decimal(text, room)
 }
 
 /// The document that fills the room, of a line and where the texts of its nodes stand.
 // Each line is handed out so.
 #[inline(always)]
 pub(crate) fn lend<'a>(line: &'a [u8], room: &'a Room, texts: Texts) -> FlatDocument<'a>
-    requires few { length room.now.nodes.items ≤ 16777218 }
+    requires few { length room.now.nodes.items ≤ 268435456 }
     requires held { IsHeld (texts_at texts line.now room.now) room.now.nodes.items }
     ensures { document_value result ≡ filled_value texts line.now room.now }
 {

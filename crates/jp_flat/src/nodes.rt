@@ -11,7 +11,6 @@ ghost use Rattle.jp_flat.specs.inner.Rows.{are_within, pass_fault};
 use crate::digits::{is_readable, is_whole_text, is_within};
 use crate::limits::MAX_LEVEL;
 use jp_doc::DocFault;
-use jp_flat_nodes::MAX_NODES;
 use json::Node;
 
 /// A text, which is in UTF-8 by its type.
@@ -118,12 +117,10 @@ pub(crate) fn fault_in(nodes: &[Node<'_>]) -> Option<DocFault>
             None => return Some(DocFault::Unreadable),
         }
     }
-    if !within {
-        Some(DocFault::LongNumber)
-    } else if nodes.len() > MAX_NODES {
-        Some(DocFault::LongArray)
-    } else {
+    if within {
         None
+    } else {
+        Some(DocFault::LongNumber)
     }
 }
 

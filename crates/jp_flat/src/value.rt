@@ -1,8 +1,8 @@
 //! Values of a flat document, and cursors over their items and members.
 
-ghost use Rattle.std.specs.Prelude.{◌≡◌, ◌<◌, ◌∷◌, drop, true, MatchOption, IfSome};
+ghost use Rattle.std.specs.Prelude.{◌≡◌, ℕ, ◌<◌, ◌≤◌, ◌∷◌, drop, true, false, MatchOption, IfSome};
 ghost use Rattle.json.specs.Token.{begin_array, begin_object};
-ghost use Rattle.jp_doc.specs.Reading.{max_items};
+ghost use Rattle.jp_doc.specs.Reading.{max_line, has_long_array};
 ghost use Rattle.jp_flat.specs.Document.{document_tokens};
 ghost use Rattle.jp_flat.specs.inner.Held.{HasPiece};
 ghost use Rattle.jp_flat.specs.inner.Plain.{is_fit_number, is_flat};
@@ -91,7 +91,7 @@ impl<'d> FlatNumber<'d> {
 }
 
 impl<'d> FlatValue<'d> {
-    ghost use Rattle.std.specs.Prelude.{option_map, ◌≤◌};
+    ghost use Rattle.std.specs.Prelude.{option_map};
     ghost use Rattle.std.specs.Str.{chars};
     ghost use Rattle.jp_doc.specs.DocumentValue.{whole_in};
     ghost use Rattle.jp_doc.specs.Location.{member_of, item_of};
@@ -169,9 +169,9 @@ impl<'d> FlatValue<'d> {
         }
     }
 
-    /// How many nodes the value has: at least as many as it has items, where it is an array.
+    /// How many nodes the value has: at least as many as any array in it has items.
     pub fn node_count(self) -> usize
-        ensures { item_count (flat_value self.entry) ≤ result }
+        ensures { (n : ℕ) → result ≤ n → has_long_array n (flat_value self.entry) ≡ false }
     {
         (self.document.after(self.at) - self.at) as usize
     }
@@ -208,7 +208,7 @@ impl<'d> FlatValue<'d> {
     /// How many items the array has, and 0 of any other value. It goes over them.
     pub fn item_count(self) -> u32
         ensures count { result ≡ item_count (flat_value self.entry) }
-        ensures short { result ≤ max_items }
+        ensures short { result ≤ max_line }
     {
         match self.items() {
             Some(items) => items.count(),
@@ -238,7 +238,7 @@ impl<'d> FlatValue<'d> {
 }
 
 impl<'d> FlatItems<'d> {
-    ghost use Rattle.std.specs.Prelude.{option_map, ◌≤◌};
+    ghost use Rattle.std.specs.Prelude.{option_map};
     ghost use Rattle.jp_doc.specs.Json.{Items, array, no_items, add_item};
     ghost use Rattle.jp_doc.specs.Location.{item_of};
     ghost use Rattle.jp_flat.specs.Value.{flat_value, items_value, items_left, item_count};
@@ -283,7 +283,7 @@ impl<'d> FlatItems<'d> {
     /// How many these are. It goes over them.
     pub fn count(self) -> u32
         ensures count { result ≡ item_count (items_value self.entry) }
-        ensures short { result ≤ max_items }
+        ensures short { result ≤ max_line }
     {
         let mut count = 0;
         let mut left = self;

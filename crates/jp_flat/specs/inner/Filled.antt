@@ -18,6 +18,6 @@ texts_at InRoom line room = room.texts.items
 abbrev pub filled_value : Texts → List ℕ → Room → Json
 filled_value texts line room = value_at (tokens_at (texts_at texts line room) room.nodes.items)
 
--- the nodes are those of a document whose value is the answer
+-- the nodes are those of a document, whose value is the answer where no array of it is too long
 abbrev pub IsFilled : Result Json DocFault → Texts → List ℕ → Room → Type 0
 IsFilled answer texts line room = IsReadAs answer (texts_at texts line room) room.nodes.items

@@ -3,7 +3,7 @@ use Rattle.std.specs.Prelude.{◌≡◌, ◌≢◌, ℕ, List, Option, Some, Non
 use Rattle.jp_doc.specs.Reading.{reading}
 use Rattle.jp_doc.specs.ReadingIn.{reading_in}
 use Rattle.jp_doc.specs.declared.fault.DocFault.{DocFault}
-use Rattle.jp_doc.specs.declared.fault.DocFault.TheVariants.{Memory}
+use Rattle.jp_doc.specs.declared.fault.DocFault.TheVariants.{LongNumber, Memory}
 use Rattle.jp_flat.specs.inner.Filled.{IsFilled}
 use Rattle.jp_flat.specs.declared.lines.FlatAnswer.{FlatAnswer}
 use Rattle.jp_flat.specs.declared.lines.FlatAnswer.TheVariants.{Filled, Faulty, Open}
@@ -20,3 +20,8 @@ IsFlatAnswer (Open o) n line room =
 abbrev pub told : Option DocFault → FlatAnswer
 told None = Open None
 told (Some f) = Faulty f
+
+-- what it says where numbers need not be whole, and one of them is over the limits
+abbrev pub told_over : Option DocFault → FlatAnswer
+told_over None = Open (Some LongNumber)
+told_over (Some f) = Faulty LongNumber

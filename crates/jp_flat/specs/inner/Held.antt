@@ -1,7 +1,8 @@
 -- What is always so of the nodes of a flat document: a working file, which nobody has to believe.
-use Rattle.std.specs.Prelude.{◌≡◌, ℕ, ◌+◌, ◌≤◌, true, List, length, get_or, Result, Ok}
+use Rattle.std.specs.Prelude.{◌≡◌, ℕ, ◌+◌, ◌≤◌, true, List, length, get_or, Result}
 use Rattle.std.specs.Str.{is_utf8}
 use Rattle.jp_doc.specs.Json.{Json}
+use Rattle.jp_doc.specs.Reading.{unless_long}
 use Rattle.jp_doc.specs.declared.fault.DocFault.{DocFault}
 use Rattle.jp_flat.specs.Flat.{value_at}
 use Rattle.jp_flat.specs.inner.Plain.{is_flat}
@@ -31,8 +32,8 @@ pub record IsHeld (text : List ℕ) (nodes : List FlatNode) : Type 0 where
   pub linked : AreLinked (tokens_at text nodes) nodes
   pub pieces : (i : ℕ) → HasPiece text (get_or nodes i Null)
 
--- the nodes are those of a document whose value is the answer
+-- The nodes are those of a document, whose value is the answer where no array of it is too long.
 pub record IsReadAs (answer : Result Json DocFault) (text : List ℕ) (nodes : List FlatNode) : Type 0 where
-  pub few : length nodes ≤ 16777218
+  pub few : length nodes ≤ 268435456
   pub held : IsHeld text nodes
-  pub value : answer ≡ Ok (value_at (tokens_at text nodes))
+  pub value : answer ≡ unless_long (value_at (tokens_at text nodes))

@@ -13,7 +13,7 @@ use Rattle.json.specs.Json as text
 use Rattle.json.specs.Tree.{json_tokens}
 use Rattle.json.specs.Word.{after_number}
 use Rattle.serde_json.specs.Read.{max_depth}
-use Rattle.jp_doc.specs.ReadingIn as numbers
+use Rattle.jp_doc.specs.Reading.{max_line}
 use Rattle.jp_doc.specs.Tree.{text_number}
 use Rattle.jp_flat_nodes.specs.Digits.{are_digits}
 use Rattle.jp_number.specs.Number.{is_short}
@@ -94,14 +94,10 @@ abbrev mutual
   members_are_fit text.no_members = true
   members_are_fit (text.member k j ms) = is_utf8 k && (is_fit j && members_are_fit ms)
 
--- the greatest number of tokens, as of any line that is read by its tree
-abbrev pub max_tokens : ℕ
-max_tokens = numbers.max_tokens
-
 abbrev pub is_small : Option (text.Json × List Token) → Bool
 is_small None = false
-is_small (Some p) = nat_le (length (json_tokens p.0)) max_tokens && is_fit p.0
+is_small (Some p) = nat_le (length (json_tokens p.0)) max_line && is_fit p.0
 
--- a value begins here, which has such numbers and names and few enough tokens
+-- a value begins here, which has such numbers and names, and no more tokens than a line has bytes
 abbrev pub is_flat : List Token → Bool
 is_flat ts = is_small (text.value max_depth ts)

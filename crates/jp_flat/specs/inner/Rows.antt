@@ -1,16 +1,16 @@
 -- Which numbers tokens hold, and what a reader by the grammar alone answers: a working file, which nobody has
 -- to believe.
-use Rattle.std.specs.Prelude.{Bool, true, false, not, ◌&&◌, nat_lt, List, [], ◌∷◌, length, Option, Some, None}
-use Rattle.std.specs.Prelude.{Result, Ok, Err, if◌then◌else◌}
+use Rattle.std.specs.Prelude.{Bool, true, false, not, ◌&&◌, List, [], ◌∷◌, Option, Some, None, Result, Err}
+use Rattle.std.specs.Prelude.{if◌then◌else◌}
 use Rattle.json.specs.Json as text
 use Rattle.json.specs.Token.{Token}
 use Rattle.serde_json.specs.Data.{Num}
 use Rattle.serde_json.specs.Find.{is_float}
 use Rattle.jp_doc.specs.Json.{Json}
-use Rattle.jp_doc.specs.ReadingIn.{max_tokens}
+use Rattle.jp_doc.specs.Reading.{unless_long}
 use Rattle.jp_doc.specs.Tree.{text_number, tree_json}
 use Rattle.jp_doc.specs.declared.fault.DocFault.{DocFault}
-use Rattle.jp_doc.specs.declared.fault.DocFault.TheVariants.{Unreadable, LongNumber, LongArray}
+use Rattle.jp_doc.specs.declared.fault.DocFault.TheVariants.{Unreadable, LongNumber}
 use Rattle.jp_flat.specs.inner.Nesting.{nests_from}
 use Rattle.jp_number.specs.Number.{written, is_short}
 
@@ -36,8 +36,8 @@ are_short (Token.bad ∷ ts) = are_short ts
 -- the answer, from a pass over the tokens of a line that the kit reads as this tree
 abbrev pub pass_answer : List Token → text.Json → Result Json DocFault
 pass_answer ts j =
-    if nests_from 0 ts then (if are_short ts then (if nat_lt max_tokens (length ts) then Err LongArray
-    else Ok (tree_json j)) else Err LongNumber) else Err Unreadable
+    if nests_from 0 ts then (if are_short ts then unless_long (tree_json j) else Err LongNumber)
+    else Err Unreadable
 
 -- the same by the text of each number
 abbrev pub are_within : List Token → Bool
@@ -56,9 +56,8 @@ are_within (Token.bad ∷ ts) = are_within ts
 -- the fault that a pass over the tokens finds, and the answer that comes of it
 abbrev pub pass_fault : List Token → Option DocFault
 pass_fault ts =
-    if nests_from 0 ts then (if are_within ts then (if nat_lt max_tokens (length ts) then Some LongArray
-    else None) else Some LongNumber) else Some Unreadable
+    if nests_from 0 ts then (if are_within ts then None else Some LongNumber) else Some Unreadable
 
 abbrev pub by_fault : Option DocFault → Json → Result Json DocFault
-by_fault None v = Ok v
+by_fault None v = unless_long v
 by_fault (Some f) v = Err f

@@ -1,4 +1,4 @@
-use Rattle.std.proofs.Common.{◌≤◌, length, refl, sym, arith}
+use Rattle.std.proofs.Common.{◌≤◌, length, refl, arith}
 use Rattle.jp_doc.specs.Reading.{max_line}
 use Rattle.jp_flat.proofs.Decimal.{no_text}
 use Rattle.jp_flat.proofs.ReadNodes.{read_grammar}
@@ -7,7 +7,7 @@ use Rattle.jp_flat.proofs.lines.fill_decimal.Goals as goal
 pub returns-in_default : goal.returns-in_default
 returns-in_default c =
     let short : length c.args.line.now ≤ max_line = omega arith in
-    sym (no_text c.args.line.now c.in_default.ensures short)
+    no_text c.args.line.now c.in_default.ensures short
 
 pub returns-then-read_decimal_line : goal.returns-then-read_decimal_line
 returns-then-read_decimal_line c =

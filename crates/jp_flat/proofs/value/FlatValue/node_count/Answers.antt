@@ -1,4 +1,5 @@
-use Rattle.jp_flat.proofs.Kept.{items_have_nodes}
+use Rattle.std.proofs.Common.{arith}
+use Rattle.jp_flat.proofs.Kept.{short_by_nodes}
 use Rattle.jp_flat.proofs.Shapes.{within}
 use Rattle.jp_flat.proofs.value.FlatValue.node_count.Goals as goal
 
@@ -8,4 +9,5 @@ after-requires c =
     within d.text.now d.nodes.now c.args.self.at c.args.self.flat
 
 pub returns : goal.returns
-returns c = items_have_nodes c.args.self c.after.result c.after.ensures.value c.after.ensures.later
+returns c n few =
+    short_by_nodes c.args.self c.after.result n c.after.ensures.value c.after.ensures.later (omega (arith, few))
