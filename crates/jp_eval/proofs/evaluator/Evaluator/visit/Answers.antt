@@ -6,7 +6,7 @@ use Rattle.jp_eval.specs.Nodelist.{document_nodes}
 use Rattle.jp_eval.specs.inner.Base.{base_of}
 use Rattle.jp_eval.proofs.Answering.{from_taken, visited}
 use Rattle.jp_found.proofs.Keeping.{still_taken}
-use Rattle.jp_eval.proofs.evaluator.Evaluator.visit_part.Goals as goal
+use Rattle.jp_eval.proofs.evaluator.Evaluator.visit.Goals as goal
 
 pub returns-clause-nodes : goal.returns-clause-nodes
 returns-clause-nodes g c = λ tests right.
