@@ -31,8 +31,7 @@ impl<'c, 'v> ChildRange<'c, 'v> {
     {
         match children {
             Children::Listed(children) => ChildRange::Listed(children.as_slice()),
-            // Not counted: to count a flat array takes a walk, and this range is only gone over from the
-            // front.
+            // Not counted: to count items takes a walk, and this range is only gone over from the front.
             Children::Items(items) => ChildRange::Items(*items, 0, u32::MAX),
             Children::Members(members) => ChildRange::Members(members.range()),
         }

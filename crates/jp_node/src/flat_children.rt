@@ -1,4 +1,4 @@
-//! Children of a value of a flat document, from the first on.
+//! Children of a value one by one, for a loop that holds an index or a cursor.
 
 ghost use Rattle.std.specs.Prelude.{◌≡◌, ◌+◌, ◌≤◌, ◌<◌, [], ◌∷◌, suc, drop, length, IfSome, MatchOption};
 ghost use Rattle.jp_doc.specs.Height.{height};
@@ -31,7 +31,9 @@ pub fn member_at<'v>(members: &[FlatMember<'v>], index: usize) -> Option<Child<'
         None => None,
         Some(member) => {
             let link = Link::Name(member.name);
-            let part = Part::Flat(member.value);
+            let part = Part {
+                value: member.value,
+            };
             Some(Child { link, part })
         }
     }
@@ -63,7 +65,7 @@ pub fn first_item<'v>(
         None => None,
         Some((first, others)) => {
             let link = Link::Index(place);
-            let part = Part::Flat(first);
+            let part = Part { value: first };
             Some((Child { link, part }, others))
         }
     }

@@ -1,5 +1,5 @@
-//! Nodes of a document (RFC 9535, 1.1): a value, in either form that a document is read in, its children and
-//! those that an index (2.3.3) and a slice (2.3.4) select, where it is (2.7), and who is told of it.
+//! Nodes of a document (RFC 9535, 1.1): a value, its children and those that an index (2.3.3) and a slice
+//! (2.3.4) select, where it is (2.7), and who is told of it.
 #![tactic(auto)]
 
 mod bare_text;
@@ -19,7 +19,6 @@ mod part;
 mod path_stack;
 mod slices;
 mod step;
-mod tree;
 mod visit;
 
 pub use bare_text::is_bare;
@@ -36,5 +35,4 @@ pub use part::{Inside, Kind, Part};
 pub use path_stack::{PathStack, Scratch};
 pub use slices::sliced;
 pub use step::append_link;
-pub use tree::{TreeItems, TreeMember, TreeMembers, TreeValue};
 pub use visit::Visit;

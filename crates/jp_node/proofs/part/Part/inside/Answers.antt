@@ -1,5 +1,5 @@
 use Rattle.jp_node.proofs.Lists.{array_of}
-use Rattle.jp_node.proofs.part.flat_inside.Goals as goal
+use Rattle.jp_node.proofs.part.Part.inside.Goals as goal
 
 pub returns-in-Array : goal.returns-in-Array
 returns-in-Array c =

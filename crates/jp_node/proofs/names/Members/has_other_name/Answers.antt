@@ -3,7 +3,7 @@ use Rattle.std.specs.Str.{chars}
 use Rattle.jp_flat.specs.Members.{last_of}
 use Rattle.jp_flat.specs.Value.{flat_value, entries}
 use Rattle.jp_node.proofs.InLine.{first_found, found_behind, found_inside}
-use Rattle.jp_node.proofs.names.has_name_beyond.Goals as goal
+use Rattle.jp_node.proofs.names.Members.has_other_name.Goals as goal
 
 pub returns-then-is_missing : goal.returns-then-is_missing
 returns-then-is_missing c = λ h.
@@ -12,7 +12,7 @@ returns-then-is_missing c = λ h.
     ap (λ es. is_some (last_of k es None)) c.in-Some.ensures.value
     ∙ first_found k (flat_value c.in-Some.member.value) (entries c.in-Some.others) in (
       k,
-      found_inside k c.args.flat (c.loop-member.invariant k here),
+      found_inside k c.args.self.members (c.loop-member.invariant k here),
       c.is_missing.ensures c.if-is_missing.true,
     )
 

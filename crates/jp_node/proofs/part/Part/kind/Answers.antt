@@ -1,6 +1,6 @@
 use Rattle.std.proofs.Common.{sym}
 use Rattle.jp_node.proofs.Lists.{array_of}
-use Rattle.jp_node.proofs.part.flat_kind.Goals as goal
+use Rattle.jp_node.proofs.part.Part.kind.Goals as goal
 
 pub returns-in-Array : goal.returns-in-Array
 returns-in-Array c =
