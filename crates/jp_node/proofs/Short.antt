@@ -12,7 +12,7 @@ use Rattle.jp_node.specs.declared.items.Items.{Items}
 use Rattle.jp_node.specs.Part.{part_value}
 use Rattle.jp_node.specs.declared.part.Part.{Part}
 
-pub counted : (v : Json) → item_count v ≡ length (item_list (items_inside v))
+counted : (v : Json) → item_count v ≡ length (item_list (items_inside v))
 counted null = refl
 counted (truth b) = refl
 counted (number x) = refl

@@ -11,6 +11,7 @@ use crate::children::{Child, Children};
 use crate::items::Items;
 use crate::link::Link;
 use crate::members::MemberRange;
+use crate::one_child::first_item;
 
 /// Children that stand one behind another.
 #[derive(Clone, Copy)]
@@ -104,21 +105,13 @@ impl<'c, 'v> ChildRange<'c, 'v> {
                 None => None,
                 Some((child, others)) => Some((*child, ChildRange::Listed(others))),
             },
-            ChildRange::Items(items, first, past) => {
-                if first >= past {
-                    return None;
-                }
-                match items.split_first() {
-                    None => None,
-                    Some((part, others)) => {
-                        let link = Link::Index(first);
-                        Some((
-                            Child { link, part },
-                            ChildRange::Items(others, first + 1, past),
-                        ))
-                    }
-                }
-            }
+            ChildRange::Items(items, first, past) => match first_item(items.items, first, past) {
+                None => None,
+                Some((child, items)) => Some((
+                    child,
+                    ChildRange::Items(Items { items }, first + 1, past),
+                )),
+            },
             ChildRange::Members(members) => match members.split_first() {
                 None => None,
                 Some((member, others)) => {

@@ -88,7 +88,10 @@ impl<'c, 'v> MemberRange<'c, 'v> {
         ensures { range_entries result.0 ++ range_entries result.1 ≡ range_entries self.entry }
     {
         let (left, right) = self.members.split_at(self.members.len() / 2);
-        (MemberRange { members: left }, MemberRange { members: right })
+        (
+            MemberRange { members: left },
+            MemberRange { members: right },
+        )
     }
 
     /// The first, and those behind it.

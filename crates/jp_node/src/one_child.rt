@@ -1,4 +1,4 @@
-//! Children of a value one by one, for a loop that holds an index or a cursor.
+//! A child of a value, for loops that hold an index or a cursor.
 
 ghost use Rattle.std.specs.Prelude.{◌≡◌, ◌+◌, ◌≤◌, ◌<◌, [], ◌∷◌, suc, drop, length, IfSome, MatchOption};
 ghost use Rattle.jp_doc.specs.Height.{height};

@@ -3,7 +3,7 @@ use Rattle.std.specs.Str.{chars}
 use Rattle.jp_flat.specs.Members.{last_of}
 use Rattle.jp_flat.specs.Value.{flat_value, entries}
 use Rattle.jp_node.proofs.InLine.{first_found, found_behind, found_inside}
-use Rattle.jp_node.proofs.names.Members.has_other_name.Goals as goal
+use Rattle.jp_node.proofs.members.Members.has_other_name.Goals as goal
 
 pub returns-then-is_missing : goal.returns-then-is_missing
 returns-then-is_missing c = λ h.
