@@ -24,18 +24,12 @@ use Rattle.jp_compiled.proofs.query.ArgumentForm.TheSendSync as forms
 use Rattle.jp_compiled.proofs.query.CompiledLogical.TheLaws.TheKnot.{crosses as ready_crosses}
 use Rattle.jp_automaton.proofs.expressions.Expression.TheLaws.TheKnot.{crosses as pattern_crosses}
 use Rattle.jp_node.proofs.link.Link.TheSendSync as links
-use Rattle.std.proofs.MapsCrossing.{crosses as map_crosses}
-use Rattle.serde_json.proofs.number.Number.TheSendSync as numbers
-use Rattle.serde_json.proofs.value.Value.TheLaws.TheKnot.{crosses as value_crosses}
-use Rattle.serde_json.specs.contracts.value.Value as Value
 use Rattle.jp_node.specs.contracts.link.Link as Link
 use Rattle.jp_eval.proofs.fork.Cuts.TheSendSync as cuts
 use Rattle.jp_found.proofs.root_answer.Length.TheSendSync as lengths
 use Rattle.jp_node.specs.contracts.part.Part as Part
 use Rattle.jp_node.specs.contracts.items.Items as Items
 use Rattle.jp_node.specs.contracts.members.MemberRange as MemberRange
-use Rattle.jp_node.specs.contracts.tree.TreeMember as TreeMember
-use Rattle.jp_node.specs.contracts.tree.TreeMembers as TreeMembers
 use Rattle.jp_flat.specs.contracts.value.FlatMembers as FlatMembers
 use Rattle.jp_flat.specs.contracts.value.FlatMember as FlatMember
 use Rattle.jp_node.specs.contracts.children.Child as Child
@@ -125,30 +119,23 @@ logical_field = search (
 pub root_sync : IsSync RootPart.the_row
 root_sync = search (query_field, logical_field, crosses, sendable) depth 60 fits 20000
 
-pub value_sync : IsSync Value.the_row
-value_sync = search (numbers.the_field_sync, value_crosses, map_crosses, crosses, sendable) depth 60
-    fits 20000
-
 pub part_sync : (a : NamedLft) → IsSync (Part.the_row a)
-part_sync a = search (value_sync, crosses, sendable) depth 60 fits 20000
+part_sync a = search (crosses, sendable) depth 60 fits 20000
 
 part_field : (a : NamedLft) → IsSync (Part.the_field a).row
-part_field a = search (value_sync, crosses, sendable) depth 60 fits 20000
+part_field a = search (crosses, sendable) depth 60 fits 20000
 
 child_sync : (a : NamedLft) → IsSync (Child.the_row a)
 child_sync a = search (part_field, links.the_field_sync, crosses, sendable) depth 60 fits 20000
 
 items_field : (a : NamedLft) → IsSync (Items.the_field a).row
-items_field a = search (value_sync, crosses, sendable) depth 60 fits 20000
-
-tree_member : (a : NamedLft) → IsSync (TreeMember.the_row a)
-tree_member a = search (value_sync, crosses, sendable) depth 60 fits 20000
+items_field a = search (crosses, sendable) depth 60 fits 20000
 
 flat_member : (a : NamedLft) → IsSync (FlatMember.the_row a)
 flat_member a = search (crosses, sendable) depth 60 fits 20000
 
 member_range_field : (a b : NamedLft) → IsSync (MemberRange.the_field a b).row
-member_range_field a b = search (tree_member, flat_member, crosses, sendable) depth 60 fits 20000
+member_range_field a b = search (flat_member, crosses, sendable) depth 60 fits 20000
 
 pub range_sync : (a b : NamedLft) → IsSync (ChildRange.the_row a b)
 range_sync a b = search (items_field, member_range_field, child_sync, crosses, sendable) depth 60 fits 20000
@@ -174,18 +161,14 @@ pattern_field : (a : NamedLft) → IsSync (ReadPattern.the_field a).row
 pattern_field a = search (dfas.the_field_sync, sets.the_field_sync, crosses, pattern_crosses, sendable)
     depth 60 fits 20000
 
-tree_members : (a : NamedLft) → IsSync (TreeMembers.the_field a).row
-tree_members a = search (numbers.the_field_sync, value_crosses, map_crosses, crosses, sendable) depth 60
-    fits 20000
-
 flat_members : (a : NamedLft) → IsSync (FlatMembers.the_field a).row
 flat_members a = search (crosses, sendable) depth 60 fits 20000
 
 members_field : (a : NamedLft) → IsSync (Members.the_field a).row
-members_field a = search (tree_members, flat_members, crosses, sendable) depth 60 fits 20000
+members_field a = search (flat_members, crosses, sendable) depth 60 fits 20000
 
 list_field : (a : NamedLft) → IsSync (MemberList.the_field a).row
-list_field a = search (tree_member, flat_member, crosses, sendable) depth 60 fits 20000
+list_field a = search (flat_member, crosses, sendable) depth 60 fits 20000
 
 kind_field : (a : NamedLft) → IsSync (Kind.the_field a).row
 kind_field a = search (items_field, members_field, crosses, sendable) depth 60 fits 20000

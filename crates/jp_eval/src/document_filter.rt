@@ -44,7 +44,7 @@ impl<'p> DocumentFilter<'p> {
         })
     }
 
-    /// Whether the filter is true of the document, by its whole value, in whatever form it is read.
+    /// Whether the filter is true of the document, of which this is the whole value.
     ///
     /// # Errors
     ///

@@ -3,7 +3,6 @@
 ghost use Rattle.std.specs.Prelude.{◌≡◌, [], true, false, IfOk, OnOk};
 ghost use Rattle.std.specs.List.{fold};
 ghost use Rattle.jp_compiled.specs.Compiled.{compiled_query};
-ghost use Rattle.jp_doc.specs.Document.{document_value};
 ghost use Rattle.jp_compiled.specs.Parts.{roots_of, segments_in};
 ghost use Rattle.jp_eval.specs.Nodelist.{document_nodes};
 ghost use Rattle.jp_eval.specs.inner.Routes.{is_routed};
@@ -18,7 +17,6 @@ use crate::route::{Route, route_of, visit_along};
 use crate::split::{Splitting, go_split};
 use crate::walk::{Action, run};
 use jp_compiled::CompiledQuery;
-use jp_doc::Document;
 use jp_found::{Found, RootUse, asked_by, visitor_of};
 use jp_node::{Part, PathStack, Scratch, Visit};
 use std::alloc::{AllocError, Global};
@@ -57,36 +55,15 @@ impl<'p> Evaluator<'p> {
         }
     }
 
-    /// Hands the nodes that the query selects in a document to the visitor, in the order of its nodelist (RFC
-    /// 9535, 2.1.2), as long as one more would change something, and gives the visitor back: a node that is
-    /// selected more than once comes as often.
-    ///
-    /// # Errors
-    ///
-    /// [`EvalFault::Memory`] where a growth of memory was refused. Further documents may be visited then.
-    pub fn visit<V: Visit + Drop>(
-        &mut self,
-        document: &Document,
-        visitor: V,
-    ) -> Result<V, EvalFault>
-        ensures nodes { IfOk result (λ t. (tests : Tests) → AreRight tests →
-            V.kept t ≡ fold V.put (V.kept visitor)
-            (document_nodes tests (evaluated_query self.old) (document_value document.now))) }
-        ensures query { evaluated_query self.new ≡ evaluated_query self.old }
-    {
-        let mut visitor = visitor;
-        self.visit_part(Part::root_of(document), &mut visitor)?;
-        Ok(visitor)
-    }
-
-    /// The same as `visit`, of a document by its whole value, in whatever form it is read, by a visitor that
-    /// is lent.
+    /// Hands the nodes that the query selects in a document, of which this is the whole value, to the visitor,
+    /// in the order of its nodelist (RFC 9535, 2.1.2), as long as one more would change something: a node that
+    /// is selected more than once comes as often.
     ///
     /// # Errors
     ///
     /// [`EvalFault::Memory`] where a growth of memory was refused. Further documents may be visited then, and
     /// what the visitor has is left open.
-    pub fn visit_part<V: Visit + Drop>(
+    pub fn visit<V: Visit + Drop>(
         &mut self,
         root: Part<'_>,
         visitor: &mut V,
@@ -110,7 +87,7 @@ impl<'p> Evaluator<'p> {
         Ok(())
     }
 
-    /// The same as `visit_part`, where a list of children that the query's own segments walk, and that is
+    /// The same as `visit`, where a list of children that the query's own segments walk, and that is
     /// long enough for these cuts, is cut into halves that are walked at once, and so is a half. What lies
     /// within as many cuts as there may be is walked whole.
     ///
@@ -121,7 +98,7 @@ impl<'p> Evaluator<'p> {
     ///
     /// [`EvalFault::Memory`] where a growth of memory was refused. Further documents may be visited then, and
     /// what the visitor has is left open.
-    pub fn visit_part_split<R: Threads + Sync, F: Fork + Sync, V: Visit + Drop + Send>(
+    pub fn visit_split<R: Threads + Sync, F: Fork + Sync, V: Visit + Drop + Send>(
         &mut self,
         rt: &R,
         root: Part<'_>,

@@ -28,8 +28,8 @@ use jp_found::{
     Aggregate, Found, add, has_first, into_aggregate, is_full, none_found, of_distinct, operand,
 };
 use jp_node::{
-    Child, ChildRange, Items, Kind, Link, MemberRange, Part, PathStack, Visit, children_of,
-    first_item, member_at, place_in, sliced,
+    Child, ChildRange, Kind, Link, Part, PathStack, Visit, children_of, first_item, member_at,
+    place_in, sliced,
 };
 use jp_tree::Operator;
 use jp_value::{
@@ -56,7 +56,7 @@ pub(crate) struct Opened<'c, 'v> {
     range: Option<ChildRange<'c, 'v>>,
 }
 
-/// Items of a flat document that have a place below another, where the first has this one.
+/// Items that have a place below another, where the first has this one.
 #[derive(Clone, Copy)]
 pub(crate) struct ItemRange<'v> {
     rest: FlatItems<'v>,
@@ -273,16 +273,15 @@ fn each_of<'v, V: Visit + Drop>(
         (done (base_of context.now) action.entry) (range_nodes (link_steps path.old) children.entry))) }
     ensures path { OnOk result (path.new ≡ path.old) }
 {
-    // Those of a flat document, which most are, have loops of their own: a range is many words to hand on.
+    // Members and items, which most are, have loops of their own: a range is many words to hand on.
     match children {
-        ChildRange::Members(MemberRange::Flat(members)) => {
-            each_member(context, action, members, path, found)
-        }
-        ChildRange::Items(Items::Flat(rest), place, past) => {
+        ChildRange::Members(range) => each_member(context, action, range.members, path, found),
+        ChildRange::Items(items, place, past) => {
+            let rest = items.items;
             let items = ItemRange { rest, place, past };
             each_item(context, action, items, path, found)
         }
-        _ => each_in(context, action, children, path, found),
+        ChildRange::Listed(_) => each_in(context, action, children, path, found),
     }
 }
 

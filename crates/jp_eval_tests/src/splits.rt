@@ -99,8 +99,8 @@ fn walks_for_threads(rt: HostRuntime) -> Result<(), Fail> {
     Ok(())
 }
 
-/// Where the nodes are that a plan selects in a line, which is read flat, by halves that the fork counts.
-fn found_flat<R: Threads + Sync>(
+/// Where the nodes are that a plan selects in a line, by halves that the fork counts.
+fn found_in<R: Threads + Sync>(
     rt: &R,
     alloc: Global,
     plan: &Plan,
@@ -110,9 +110,9 @@ fn found_flat<R: Threads + Sync>(
 ) -> Result<Vec<Location>, Fail> {
     let mut reader = LineReader::new(alloc);
     let Ok(LineDocument::Flat(document)) = reader.read(Numbers::Whole, line.as_bytes())? else {
-        return Err("not flat".into());
+        return Err("not read".into());
     };
-    let root = Part::root_of_flat(&document);
+    let root = Part::root_of(&document);
     let mut found = Locations {
         locations: Vec::new(alloc),
     };
@@ -121,12 +121,12 @@ fn found_flat<R: Threads + Sync>(
         cuts: Cuts::new(floor, 64),
         fork,
     };
-    evaluator.visit_part_split(rt, root, halving, &mut found)?;
+    evaluator.visit_split(rt, root, halving, &mut found)?;
     Ok(found.locations)
 }
 
-/// Whether a query's 256 nodes in a line that is read flat are cut into 64 parts, each of 200 times.
-fn are_sixty_four_flat<R: Threads + Sync>(
+/// Whether a query's 256 nodes in a line are cut into 64 parts, each of 200 times.
+fn are_sixty_four<R: Threads + Sync>(
     rt: &R,
     alloc: Global,
     query: &str,
@@ -136,7 +136,7 @@ fn are_sixty_four_flat<R: Threads + Sync>(
     let plan = plan(alloc, query)?;
     for _time in 0..200u8 {
         let fork = Counting::new();
-        let found = found_flat(rt, alloc, &plan, line, floor, &fork)?;
+        let found = found_in(rt, alloc, &plan, line, floor, &fork)?;
         if !are_all(&found, &fork, 63) {
             return Ok(false);
         }
@@ -144,19 +144,19 @@ fn are_sixty_four_flat<R: Threads + Sync>(
     Ok(true)
 }
 
-/// A flat list is cut as a tree's is.
+/// A list of a line is cut as a document's is.
 #[test]
-fn sixty_four_flat_walks(rt: HostRuntime) -> Result<(), Fail> {
+fn sixty_four_walks(rt: HostRuntime) -> Result<(), Fail> {
     let line = numbers(rt.alloc(), 256)?;
-    assert!(rt; are_sixty_four_flat(&rt, rt.alloc(), "$[*]", line.as_str(), 2)?);
+    assert!(rt; are_sixty_four(&rt, rt.alloc(), "$[*]", line.as_str(), 2)?);
     Ok(())
 }
 
-/// Members of a flat object are cut too, into halves that are as long as one another.
+/// Members of an object are cut too, into halves that are as long as one another.
 #[test]
-fn sixty_four_walks_of_flat_members(rt: HostRuntime) -> Result<(), Fail> {
+fn sixty_four_walks_of_members(rt: HostRuntime) -> Result<(), Fail> {
     let line = members(rt.alloc(), 256)?;
-    assert!(rt; are_sixty_four_flat(&rt, rt.alloc(), "$.*", line.as_str(), 4)?);
+    assert!(rt; are_sixty_four(&rt, rt.alloc(), "$.*", line.as_str(), 4)?);
     Ok(())
 }
 

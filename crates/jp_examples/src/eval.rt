@@ -1,17 +1,17 @@
 use jp_compiled::CompiledQuery;
-use jp_doc::{Document, Location};
+use jp_doc::Location;
 use jp_eval::{EvalFault, Evaluator};
-use jp_node::Locations;
+use jp_node::{Locations, Part};
 use std::alloc::Global;
 
 fn selected(
     alloc: Global,
     query: &CompiledQuery,
-    document: &Document,
+    root: Part<'_>,
 ) -> Result<Vec<Location>, EvalFault> {
-    let none = Locations {
+    let mut found = Locations {
         locations: Vec::new(alloc),
     };
-    let visitor = Evaluator::new(alloc, query).visit(document, none)?;
-    Ok(visitor.locations)
+    Evaluator::new(alloc, query).visit(root, &mut found)?;
+    Ok(found.locations)
 }

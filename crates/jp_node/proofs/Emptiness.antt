@@ -1,10 +1,8 @@
 -- Objects without a member.
-use Rattle.std.proofs.Common.{◌≡◌, Bool, true, false, List, [], ◌∷◌, length, refl, sym, ap, ◌∙◌}
+use Rattle.std.proofs.Common.{◌≡◌, Bool, true, false, List, [], ◌∷◌, refl, sym, ap, ◌∙◌}
 use Rattle.std.proofs.Common.{Less, Equal, Greater, Ordering}
 use Rattle.std.specs.Ordering.{match_ordering}
-use Rattle.serde_json.proofs.Views.{Entry}
-use Rattle.serde_json.specs.View.{members_view}
-use Rattle.jp_doc.specs.Json.{Text, text_cmp, Json, Members, no_members, add_member, members_of}
+use Rattle.jp_doc.specs.Json.{Text, text_cmp, Json, Members, no_members, add_member}
 use Rattle.jp_doc.specs.Tree.{put_member}
 use Rattle.jp_flat.proofs.InsideObject.{members_are}
 use Rattle.jp_flat.specs.Members.{put_all}
@@ -15,14 +13,6 @@ use Rattle.jp_node.specs.Inside.{members_inside}
 abbrev has_some : Members → Bool
 has_some no_members = false
 has_some (add_member k v ms) = true
-
-pub no_entries : (es : List Entry) → length es ≡ 0 → members_of (members_view es) ≡ no_members
-no_entries [] h = refl
-no_entries (e ∷ es) h = absurd cc
-
-pub some_entries : (es : List Entry) → members_of (members_view es) ≡ no_members → length es ≡ 0
-some_entries [] h = refl
-some_entries (e ∷ es) h = absurd cc
 
 some_placed : (o : Ordering) (a b c : Members) → has_some a ≡ true → has_some b ≡ true → has_some c ≡ true
     → has_some (match_ordering o a b c) ≡ true

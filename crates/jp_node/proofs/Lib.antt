@@ -1,4 +1,3 @@
-pub mod Trees
 pub mod Lists
 pub mod Short
 pub mod Emptiness

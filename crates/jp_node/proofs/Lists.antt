@@ -1,15 +1,13 @@
 -- Items and members as lists.
-use Rattle.std.proofs.Common.{◌≡◌, ℕ, zero, suc, ◌+◌, ◌<◌, ◌≤◌, List, [], ◌∷◌, ◌++◌, map, drop, Option}
+use Rattle.std.proofs.Common.{◌≡◌, ℕ, zero, suc, ◌+◌, ◌<◌, ◌≤◌, List, [], ◌∷◌, map, drop, Option}
 use Rattle.std.proofs.Common.{Some, IfSome}
 use Rattle.std.proofs.Common.{refl, ap, sym, ◌∙◌, subst, arith}
 use Rattle.std.specs.Str.{chars}
-use Rattle.serde_json.specs.View.{items_view}
-use Rattle.serde_json.specs.declared.value.Value.{Value}
 use Rattle.jp_doc.specs.Height.{height}
 use Rattle.jp_doc.specs.Json as json
-use Rattle.jp_doc.specs.Json.{Text, Json, array, object, value_of, items_of, items, item_list}
+use Rattle.jp_doc.specs.Json.{Text, Json, array, object, items, item_list}
 use Rattle.jp_doc.specs.Json.{no_items, add_item}
-use Rattle.jp_doc.specs.Json.{no_members, add_member}
+use Rattle.jp_doc.specs.Json.{add_member}
 use Rattle.jp_flat.specs.Gathered.{entry, gathered}
 use Rattle.jp_flat.specs.Value.{flat_value}
 use Rattle.jp_flat.specs.declared.value.FlatMember.{FlatMember}
@@ -23,10 +21,6 @@ items_back (add_item v vs) = ap (add_item v) (items_back vs)
 pub list_back : (xs : List Json) → item_list (items xs) ≡ xs
 list_back [] = refl
 list_back (x ∷ xs) = ap (λ ys. x ∷ ys) (list_back xs)
-
-pub items_of_values : (vs : List Value) → items_of (items_view vs) ≡ items (map (λ v. value_of v) vs)
-items_of_values [] = refl
-items_of_values (v ∷ vs) = ap (add_item (value_of v)) (items_of_values vs)
 
 -- the array that a value is, of its items
 pub array_of : (v w : Json) (vs : json.Items) → w ≡ array vs → v ≡ w
@@ -63,18 +57,3 @@ drop_enough [] i (suc n) h le = refl
 drop_enough (y ∷ ys) zero n h le = absurd cc
 drop_enough (y ∷ ys) (suc i) zero h le = absurd (omega (arith, le))
 drop_enough (y ∷ ys) (suc i) (suc n) h le = drop_enough ys i n h (omega (arith, le))
-
--- ---- members that are listed, before others
-
-abbrev pub and_members : List (Text × Json) → json.Members → json.Members
-and_members [] ms = ms
-and_members (e ∷ es) ms = add_member e.0 e.1 (and_members es ms)
-
-pub and_none : (es : List (Text × Json)) → and_members es no_members ≡ members es
-and_none [] = refl
-and_none (e ∷ es) = ap (add_member e.0 e.1) (and_none es)
-
-pub and_one : (es : List (Text × Json)) (e : Text × Json) (ms : json.Members)
-    → and_members (es ++ e ∷ []) ms ≡ and_members es (add_member e.0 e.1 ms)
-and_one [] e ms = refl
-and_one (d ∷ es) e ms = ap (add_member d.0 d.1) (and_one es e ms)

@@ -1,7 +1,7 @@
 -- No array of a document has too many items.
-use Rattle.std.proofs.Common.{◌≡◌, ◌≤◌, false, suc, List, [], ◌∷◌, length, map, refl, ap, subst, arith}
-use Rattle.serde_json.specs.declared.value.Value.{Value}
-use Rattle.jp_doc.specs.Json.{Json, null, truth, number, text, array, object, value_of, item_list}
+use Rattle.std.proofs.Common.{◌≡◌, ℕ, ◌≤◌, false, nat_lt, length, refl, subst, arith}
+use Rattle.std.proofs.lemmas.Bool.Decides.{nat_tests}
+use Rattle.jp_doc.specs.Json.{Json, null, truth, number, text, array, object, item_list}
 use Rattle.jp_flat.specs.Value.{flat_value, items_value, item_count}
 use Rattle.jp_doc.proofs.Found.{first_false}
 use Rattle.jp_doc.specs.Reading.{max_items, has_long_array}
@@ -9,11 +9,8 @@ use Rattle.jp_flat.proofs.Inside.{few_items}
 use Rattle.jp_flat.proofs.Kept.{value_is_short}
 use Rattle.jp_node.specs.Inside.{item_values, items_inside}
 use Rattle.jp_node.specs.declared.items.Items.{Items}
-use Rattle.jp_node.specs.declared.items.Items.TheVariants.{Tree, Flat}
 use Rattle.jp_node.specs.Part.{part_value}
 use Rattle.jp_node.specs.declared.part.Part.{Part}
-use Rattle.jp_node.specs.declared.part.Part.TheVariants as part
-use Rattle.jp_node.proofs.Trees.{within}
 
 counted : (v : Json) → item_count v ≡ length (item_list (items_inside v))
 counted null = refl
@@ -23,14 +20,12 @@ counted (text s) = refl
 counted (array vs) = refl
 counted (object ms) = refl
 
-mapped : (vs : List Value) → length (map (λ v. value_of v) vs) ≡ length vs
-mapped [] = refl
-mapped (v ∷ vs) = ap suc (mapped vs)
-
 pub items_are_few : (i : Items) → length (item_values i) ≤ max_items
-items_are_few (Tree i) =
-    let same = mapped i.items.now in let few = i.short in omega (arith, same, few)
-items_are_few (Flat i) = subst (λ n. n ≤ max_items) (counted (items_value i)) (few_items _ i.flat)
+items_are_few i =
+    subst (λ n. n ≤ max_items) (counted (items_value i.items)) (few_items _ i.items.flat)
+
+within : (n : ℕ) → nat_lt max_items n ≡ false → n ≤ max_items
+within n h = grind (arith, nat_tests)
 
 count_by_level : (v : Json) → has_long_array max_items v ≡ false → item_count v ≤ max_items
 count_by_level null h = omega arith
@@ -41,5 +36,4 @@ count_by_level (array vs) h = within (length (item_list vs)) (first_false _ _ h)
 count_by_level (object ms) h = omega arith
 
 pub part_is_short : (p : Part) → item_count (part_value p) ≤ max_items
-part_is_short (part.Tree p) = count_by_level (value_of p.value.now) p.kept.short_arrays
-part_is_short (part.Flat v) = count_by_level (flat_value v) (value_is_short v)
+part_is_short p = count_by_level (flat_value p.value) (value_is_short p.value)

@@ -8,7 +8,7 @@ use Rattle.jp_flat.specs.declared.value.FlatItems.{FlatItems}
 use Rattle.jp_flat.specs.declared.value.FlatMember.{FlatMember}
 use Rattle.jp_node.specs.Inside.{item_values}
 use Rattle.jp_node.specs.Members.{members, range_entries}
-use Rattle.jp_node.specs.declared.items.Items.TheVariants as form
+use Rattle.jp_node.specs.declared.items.Items.{Items}
 use Rattle.jp_node.specs.ChildNodes.{listed_nodes, children_height}
 use Rattle.jp_node.specs.Nodes.{item_nodes, member_nodes}
 use Rattle.jp_node.specs.declared.child_range.ChildRange.{ChildRange}
@@ -30,13 +30,13 @@ range_length (range.Listed cs) = length cs.now
 range_length (range.Items i first past) = past - first
 range_length (range.Members r) = length (range_entries r)
 
--- the nodes of members of a flat document, and how high the object is at least
+-- the nodes of members in a list, and how high the object is at least
 abbrev pub flat_member_nodes : Location → List FlatMember → List Node
 flat_member_nodes at ms = member_nodes at (members (map entry ms))
 
 abbrev pub flat_members_height : List FlatMember → ℕ
 flat_members_height ms = height (object (members (map entry ms)))
 
--- the range of items of a flat document
+-- the range of these items
 abbrev pub of_flat_items : FlatItems → ℕ → ℕ → ChildRange
-of_flat_items i first past = range.Items (form.Flat i) first past
+of_flat_items i first past = let all : Items = record { items = i } in range.Items all first past

@@ -1,15 +1,12 @@
 -- What is inside of a part, and what kind of a value it is.
-use Rattle.std.specs.Prelude.{◌≡◌, List, map}
+use Rattle.std.specs.Prelude.{◌≡◌, List}
 use Rattle.std.specs.Str.{chars}
-use Rattle.serde_json.specs.View.{members_view}
 use Rattle.jp_doc.specs.Json as json
-use Rattle.jp_doc.specs.Json.{Json, null, truth, number, text, array, object, value_of, items, item_list}
-use Rattle.jp_doc.specs.Json.{no_items, no_members, members_of}
+use Rattle.jp_doc.specs.Json.{Json, null, truth, number, text, array, object, items, item_list}
+use Rattle.jp_doc.specs.Json.{no_items, no_members}
 use Rattle.jp_flat.specs.Value.{items_value, members_value}
 use Rattle.jp_node.specs.declared.items.Items.{Items}
-use Rattle.jp_node.specs.declared.items.Items.TheVariants as item
 use Rattle.jp_node.specs.declared.members.Members.{Members}
-use Rattle.jp_node.specs.declared.members.Members.TheVariants as member
 use Rattle.jp_node.specs.declared.part.Inside.{Inside}
 use Rattle.jp_node.specs.declared.part.Inside.TheVariants as inside
 use Rattle.jp_node.specs.declared.part.Kind.{Kind}
@@ -35,13 +32,11 @@ members_inside (array vs) = no_members
 
 -- the items that are left
 abbrev pub item_values : Items → List Json
-item_values (item.Tree i) = map (λ v. value_of v) i.items.now
-item_values (item.Flat i) = item_list (items_inside (items_value i))
+item_values i = item_list (items_inside (items_value i.items))
 
 -- the members
 abbrev pub members_in : Members → json.Members
-members_in (member.Tree m) = members_of (members_view m.members.now.entries)
-members_in (member.Flat m) = members_inside (members_value m)
+members_in m = members_inside (members_value m.members)
 
 -- a value that has nothing inside by its kind
 abbrev pub IsScalar : Json → Type 0

@@ -11,6 +11,7 @@ use crate::children::{Child, Children};
 use crate::items::Items;
 use crate::link::Link;
 use crate::members::MemberRange;
+use crate::one_child::first_item;
 
 /// Children that stand one behind another.
 #[derive(Clone, Copy)]
@@ -31,8 +32,7 @@ impl<'c, 'v> ChildRange<'c, 'v> {
     {
         match children {
             Children::Listed(children) => ChildRange::Listed(children.as_slice()),
-            // Not counted: to count a flat array takes a walk, and this range is only gone over from the
-            // front.
+            // Not counted: to count items takes a walk, and this range is only gone over from the front.
             Children::Items(items) => ChildRange::Items(*items, 0, u32::MAX),
             Children::Members(members) => ChildRange::Members(members.range()),
         }
@@ -105,21 +105,13 @@ impl<'c, 'v> ChildRange<'c, 'v> {
                 None => None,
                 Some((child, others)) => Some((*child, ChildRange::Listed(others))),
             },
-            ChildRange::Items(items, first, past) => {
-                if first >= past {
-                    return None;
-                }
-                match items.split_first() {
-                    None => None,
-                    Some((part, others)) => {
-                        let link = Link::Index(first);
-                        Some((
-                            Child { link, part },
-                            ChildRange::Items(others, first + 1, past),
-                        ))
-                    }
-                }
-            }
+            ChildRange::Items(items, first, past) => match first_item(items.items, first, past) {
+                None => None,
+                Some((child, items)) => Some((
+                    child,
+                    ChildRange::Items(Items { items }, first + 1, past),
+                )),
+            },
             ChildRange::Members(members) => match members.split_first() {
                 None => None,
                 Some((member, others)) => {

@@ -1,4 +1,4 @@
-//! Items of an array, in either form.
+//! Items of an array.
 
 ghost use Rattle.std.specs.Prelude.{◌≡◌, ◌≤◌, [], ◌∷◌, drop, length, MatchOption};
 ghost use Rattle.jp_doc.specs.Reading.{max_items};
@@ -6,16 +6,13 @@ ghost use Rattle.jp_node.specs.Inside.{item_values};
 ghost use Rattle.jp_node.specs.Part.{part_value};
 
 use crate::part::Part;
-use crate::tree::TreeItems;
 use jp_flat::FlatItems;
 
 /// Items of an array, from one on to the last.
 #[derive(Clone, Copy)]
-pub enum Items<'v> {
-    /// Of a tree.
-    Tree(TreeItems<'v>),
-    /// Of a flat document.
-    Flat(FlatItems<'v>),
+pub struct Items<'v> {
+    /// The items.
+    pub items: FlatItems<'v>,
 }
 
 impl<'v> Items<'v> {
@@ -26,41 +23,22 @@ impl<'v> Items<'v> {
         ensures { MatchOption result (item_values self.entry ≡ [])
             (λ p. item_values self.entry ≡ part_value p.0 ∷ item_values p.1) }
     {
-        match self {
-            Items::Tree(items) => match items.split_first() {
-                None => None,
-                Some((first, others)) => Some((Part::Tree(first), Items::Tree(others))),
-            },
-            Items::Flat(items) => match items.split_first() {
-                None => None,
-                Some((first, others)) => Some((Part::Flat(first), Items::Flat(others))),
-            },
+        match self.items.split_first() {
+            None => None,
+            Some((value, items)) => Some((Part { value }, Items { items })),
         }
     }
 
-    /// How many these are. Of a flat document it goes over them.
+    /// How many these are. It goes over them.
     pub fn count(self) -> u32
         ensures count { result ≡ length (item_values self.entry) }
         ensures short { result ≤ max_items }
     {
-        match self {
-            Items::Tree(items) => items.items.len() as u32,
-            Items::Flat(items) => items.count(),
-        }
+        self.items.count()
     }
 
-    /// Those behind the first so many. Of a flat document it goes over these.
+    /// Those behind the first so many. It goes over these.
     pub fn skip(self, count: u32) -> Items<'v>
-        ensures { item_values result ≡ drop count (item_values self.entry) }
-    {
-        match self {
-            Items::Tree(items) => Items::Tree(items.skip(count as usize)),
-            Items::Flat(_) => self.skip_over(count),
-        }
-    }
-
-    /// The same, item by item.
-    fn skip_over(self, count: u32) -> Items<'v>
         ensures { item_values result ≡ drop count (item_values self.entry) }
     {
         let mut left = self;

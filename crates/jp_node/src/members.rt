@@ -1,4 +1,4 @@
-//! Members of an object, in either form.
+//! Members of an object.
 
 ghost use Rattle.std.specs.Prelude.{◌≡◌, ◌↔◌, ◌++◌, [], ◌∷◌, length, IfOk, IsTrue, MatchOption};
 ghost use Rattle.std.specs.Str.{chars};
@@ -8,35 +8,28 @@ ghost use Rattle.jp_node.specs.Members.{members, list_entries, range_entries};
 ghost use Rattle.jp_node.specs.Part.{part_value};
 
 use crate::part::Part;
-use crate::tree::{TreeMember, TreeMembers};
 use jp_flat::{FlatMember, FlatMembers, MEMBERS_AT_FIRST};
 use std::alloc::{AllocError, Global};
 
 /// The members of an object.
 #[derive(Clone, Copy)]
-pub enum Members<'v> {
-    /// Of a tree.
-    Tree(TreeMembers<'v>),
-    /// Of a flat document.
-    Flat(FlatMembers<'v>),
+pub struct Members<'v> {
+    /// The members, in the order of the line.
+    pub members: FlatMembers<'v>,
 }
 
 /// Members of an object in rising order of their names, in a list.
 #[derive(Drop)]
-pub enum MemberList<'v> {
-    /// Of a tree.
-    Tree(Vec<TreeMember<'v>>),
-    /// Of a flat document.
-    Flat(Vec<FlatMember<'v>>),
+pub struct MemberList<'v> {
+    /// The members.
+    pub list: Vec<FlatMember<'v>>,
 }
 
 /// Members that stand one behind another in a list.
 #[derive(Clone, Copy)]
-pub enum MemberRange<'c, 'v> {
-    /// Of a tree.
-    Tree(&'c [TreeMember<'v>]),
-    /// Of a flat document.
-    Flat(&'c [FlatMember<'v>]),
+pub struct MemberRange<'c, 'v> {
+    /// The members.
+    pub members: &'c [FlatMember<'v>],
 }
 
 /// A member of an object.
@@ -53,12 +46,9 @@ impl<'v> Members<'v> {
     pub fn is_empty(self) -> bool
         ensures { IsTrue result ↔ (members_in self.entry ≡ no_members) }
     {
-        match self {
-            Members::Tree(members) => members.len() == 0,
-            Members::Flat(members) => match members.split_first() {
-                None => true,
-                Some(_) => false,
-            },
+        match self.members.split_first() {
+            None => true,
+            Some(_) => false,
         }
     }
 
@@ -68,14 +58,9 @@ impl<'v> Members<'v> {
     pub fn gather(self, alloc: Global) -> Result<MemberList<'v>, AllocError>
         ensures { IfOk result (λ l. members_in self.entry ≡ members (list_entries l)) }
     {
-        match self {
-            Members::Tree(members) => Ok(MemberList::Tree(members.gather(alloc)?)),
-            Members::Flat(members) => {
-                let mut list = Vec::with_capacity(alloc, MEMBERS_AT_FIRST)?;
-                members.gather(&mut list)?;
-                Ok(MemberList::Flat(list))
-            }
-        }
+        let mut list = Vec::with_capacity(alloc, MEMBERS_AT_FIRST)?;
+        self.members.gather(&mut list)?;
+        Ok(MemberList { list })
     }
 }
 
@@ -84,9 +69,8 @@ impl<'v> MemberList<'v> {
     pub fn range(&self) -> MemberRange<'_, 'v>
         ensures { range_entries result ≡ list_entries self.now }
     {
-        match self {
-            MemberList::Tree(list) => MemberRange::Tree(list.as_slice()),
-            MemberList::Flat(list) => MemberRange::Flat(list.as_slice()),
+        MemberRange {
+            members: self.list.as_slice(),
         }
     }
 }
@@ -96,26 +80,18 @@ impl<'c, 'v> MemberRange<'c, 'v> {
     pub fn len(self) -> usize
         ensures { result ≡ length (range_entries self.entry) }
     {
-        match self {
-            MemberRange::Tree(range) => range.len(),
-            MemberRange::Flat(range) => range.len(),
-        }
+        self.members.len()
     }
 
     /// The first half, and the second. No clause says that they are equally long.
     pub fn halves(self) -> (MemberRange<'c, 'v>, MemberRange<'c, 'v>)
         ensures { range_entries result.0 ++ range_entries result.1 ≡ range_entries self.entry }
     {
-        match self {
-            MemberRange::Tree(range) => {
-                let (left, right) = range.split_at(range.len() / 2);
-                (MemberRange::Tree(left), MemberRange::Tree(right))
-            }
-            MemberRange::Flat(range) => {
-                let (left, right) = range.split_at(range.len() / 2);
-                (MemberRange::Flat(left), MemberRange::Flat(right))
-            }
-        }
+        let (left, right) = self.members.split_at(self.members.len() / 2);
+        (
+            MemberRange { members: left },
+            MemberRange { members: right },
+        )
     }
 
     /// The first, and those behind it.
@@ -126,23 +102,13 @@ impl<'c, 'v> MemberRange<'c, 'v> {
             (λ p. range_entries self.entry
             ≡ (chars p.0.name.now, part_value p.0.value) ∷ range_entries p.1) }
     {
-        match self {
-            MemberRange::Tree(range) => match range.split_first() {
-                None => None,
-                Some((first, others)) => {
-                    let TreeMember { name, value } = *first;
-                    let value = Part::Tree(value);
-                    Some((Member { name, value }, MemberRange::Tree(others)))
-                }
-            },
-            MemberRange::Flat(range) => match range.split_first() {
-                None => None,
-                Some((first, others)) => {
-                    let FlatMember { name, value } = *first;
-                    let value = Part::Flat(value);
-                    Some((Member { name, value }, MemberRange::Flat(others)))
-                }
-            },
+        match self.members.split_first() {
+            None => None,
+            Some((first, members)) => {
+                let FlatMember { name, value } = *first;
+                let value = Part { value };
+                Some((Member { name, value }, MemberRange { members }))
+            }
         }
     }
 }

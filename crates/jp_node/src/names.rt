@@ -12,16 +12,13 @@ use crate::members::{MemberRange, Members};
 use jp_flat::{FlatMember, FlatMembers};
 
 impl<'v> Members<'v> {
-    /// Whether the members of the object take less of the line than those of another, where both are flat: by
-    /// how many stand there, and the bytes of their names; a repeated name counts as often as it comes. It
-    /// goes over no more of either than the lighter one holds. It tells which of two is the cheaper one to
-    /// list, and no clause says more.
+    /// Whether the members of the object take less of the line than those of another: by how many stand
+    /// there, and the bytes of their names; a repeated name counts as often as it comes. It goes over no more
+    /// of either than the lighter one holds. It tells which of two is the cheaper one to list, and no clause
+    /// says more.
     pub fn is_shorter(self, other: Members<'_>) -> bool {
-        let (Members::Flat(ones), Members::Flat(others)) = (self, other) else {
-            return false;
-        };
-        let mut ones = ones;
-        let mut others = others;
+        let mut ones = self.members;
+        let mut others = other.members;
         // By how much what is gone over of the others outweighs what is gone over of these.
         let mut ahead: usize = 0;
         while let Some((one, behind)) = ones.split_first() {
@@ -36,16 +33,24 @@ impl<'v> Members<'v> {
         ahead > 0 || others.split_first().is_some()
     }
 
-    /// Whether some name of the object was found to be none of the list. It is looked for only where the
-    /// object is flat, and takes no memory.
+    /// Whether some name of the object was found to be none of the list. It takes no memory.
     pub fn has_other_name(self, list: MemberRange<'_, '_>) -> bool
         ensures { IsTrue result → (k : Text) × IsTrue (is_some (member_at k (members_in self.entry)))
             × (member_at k (members (range_entries list.entry)) ≡ None) }
     {
-        let (Members::Flat(flat), MemberRange::Flat(list)) = (self, list) else {
-            return false;
-        };
-        has_name_beyond(flat, list)
+        let list = list.members;
+        let mut left = self.members;
+        let mut place: usize = 0;
+        while let Some((member, others)) = left.split_first() {
+            // The search is quick, but no clause says what it finds: only where it finds none is the whole
+            // list gone over.
+            if !is_found(member.name, place, list) && is_missing(member.name, list) {
+                return true;
+            }
+            left = others;
+            place = place.saturating_add(1);
+        }
+        false
     }
 }
 
@@ -70,26 +75,6 @@ fn behind_weight<'d>(members: FlatMembers<'d>, weight: usize) -> Option<(FlatMem
         return None;
     }
     Some((left, gone - weight))
-}
-
-/// Whether some name is none of the list.
-fn has_name_beyond(flat: FlatMembers<'_>, list: &[FlatMember<'_>]) -> bool
-    ensures { IsTrue result → (k : Text)
-        × IsTrue (is_some (member_at k (members_in (Members.Flat flat.entry))))
-        × (member_at k (members (map entry list.now)) ≡ None) }
-{
-    let mut left = flat;
-    let mut place: usize = 0;
-    while let Some((member, others)) = left.split_first() {
-        // The search is quick, but no clause says what it finds: only where it finds none is the whole list
-        // gone over.
-        if !is_found(member.name, place, list) && is_missing(member.name, list) {
-            return true;
-        }
-        left = others;
-        place = place.saturating_add(1);
-    }
-    false
 }
 
 /// Whether the name is found at the place where it is where all names rise and are the same, or by halves, as

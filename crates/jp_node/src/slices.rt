@@ -62,7 +62,7 @@ fn rising<'v>(alloc: Global, items: Items<'v>, bounds: Bounds) -> Result<Vec<Chi
         children_height v.items ≤ height (array (items_of (item_values items.entry)))) }
 {
     let mut children = Vec::new(alloc);
-    // One pass forwards, and no list: a flat array can't be looked into at a place
+    // One pass forwards, and no list: an array can't be looked into at a place
     // (README, Only backward slices need a list).
     let mut left = items;
     let mut passed = 0;
@@ -123,7 +123,7 @@ fn falling<'v>(
         return Ok(children);
     };
     let lowest = above(bounds.lower, highest);
-    // It goes backwards, which a flat array can't be walked: so these are listed
+    // It goes backwards, which an array can't be walked: so these are listed
     // (README, Only backward slices need a list).
     let between = list_of(alloc, items.skip(lowest), highest - lowest + 1)?;
     let mut next = Some(highest);

@@ -6,6 +6,6 @@ pub mod OnLiterals
 pub mod FirstOnes
 pub mod SamePlaces
 pub mod Apart
-pub mod TreeObjects
+pub mod Lent
 pub mod OrderedValues
 pub mod LiteralNumbers

@@ -10,7 +10,6 @@ ghost use Rattle.jp_value.specs.Comparison as spec;
 ghost use Rattle.jp_value.specs.Operands.{operand_value, HasWholeNumbers, IsPlain};
 
 use jp_doc::whole_of;
-use jp_node::TreeMembers;
 use serde_json::{Map, Value};
 
 /// A comparable value, or nothing.
@@ -100,14 +99,6 @@ fn same_members(left: &Map<String, Value>, right: &Map<String, Value>) -> bool
         }
     }
     others.next().is_none()
-}
-
-/// Whether two objects of a document have the same members. They lie there in order, so it takes no memory.
-pub(crate) fn same_entries(left: TreeMembers<'_>, right: TreeMembers<'_>) -> bool
-    ensures { result ≡ spec.same_members (members_of (members_view left.entry.members.now.entries))
-        (members_of (members_view right.entry.members.now.entries)) }
-{
-    same_members(left.members, right.members)
 }
 
 /// The same operand, where what is lent is an array or an object.

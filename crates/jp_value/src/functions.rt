@@ -40,7 +40,7 @@ fn count_characters(text: &str) -> usize
 /// The number of scalar values of a text, of items of an array, or of members of an object, and nothing of
 /// anything else (RFC 9535, 2.4.4).
 ///
-/// It takes memory only for an object of a flat document, whose members are gathered.
+/// It takes memory only for an object, whose members are gathered.
 ///
 /// `AllocError` if a growth was refused.
 pub fn length(alloc: Global, given: Option<Kind<'_>>) -> Result<Option<Kind<'_>>, AllocError>
@@ -71,13 +71,8 @@ fn length_of(alloc: Global, kind: Kind<'_>) -> Result<Option<Kind<'_>>, AllocErr
 fn count_members(alloc: Global, members: Members<'_>) -> Result<usize, AllocError>
     ensures { IfOk result (λ n. n ≡ spec.member_count (members_in members.entry)) }
 {
-    match members {
-        Members::Tree(members) => Ok(members.len()),
-        Members::Flat(_) => {
-            let list = members.gather(alloc)?;
-            Ok(list.range().len())
-        }
-    }
+    let list = members.gather(alloc)?;
+    Ok(list.range().len())
 }
 
 /// The text that is given, if it is one.

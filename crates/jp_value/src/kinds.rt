@@ -1,4 +1,4 @@
-//! Comparison (RFC 9535, 2.3.5.2.2) of values in either form that a document is read in.
+//! Comparison (RFC 9535, 2.3.5.2.2) of values of a document.
 
 ghost use Rattle.std.specs.Prelude.{◌≡◌, IfOk};
 ghost use Rattle.jp_doc.specs.Json.{items};
@@ -7,7 +7,7 @@ ghost use Rattle.jp_node.specs.Members.{members, range_entries};
 ghost use Rattle.jp_value.specs.Comparison as spec;
 ghost use Rattle.jp_value.specs.Kinds.{given_value};
 
-use crate::comparison::{is_text_below, same_entries, same_text};
+use crate::comparison::{is_text_below, same_text};
 use jp_node::{Items, Kind, MemberRange, Members};
 use jp_number::Number;
 use jp_tree::Operator;
@@ -57,15 +57,12 @@ fn same_items(alloc: Global, left: Items<'_>, right: Items<'_>) -> Result<bool, 
     Ok(others.split_first().is_none())
 }
 
-/// Of two objects in a line the shorter one is listed first: no member of the other is listed where one of
-/// its names tells them apart. Two of a tree are compared member by member.
+/// Of two objects the shorter one is listed first: no member of the other is listed where one of its names
+/// tells them apart.
 #[cycle(same_kind)]
 fn same_members(alloc: Global, left: Members<'_>, right: Members<'_>) -> Result<bool, AllocError>
     ensures { IfOk result (λ b. b ≡ spec.same_members (members_in left.entry) (members_in right.entry)) }
 {
-    if let (Members::Tree(left), Members::Tree(right)) = (left, right) {
-        return Ok(same_entries(left, right));
-    }
     if left.is_empty() {
         return Ok(right.is_empty());
     }

@@ -22,14 +22,13 @@ pub enum Ordered<'v> {
     Object(Members<'v>, MemberList<'v>, Vec<Ordered<'v>>),
     /// An array, item by item.
     Array(Vec<Ordered<'v>>),
-    /// A value that holds no object of a line.
+    /// A value that holds no object.
     Plain(Kind<'v>),
 }
 
-/// The value, its members in order. One of a tree stays as it is, since its members are in order.
+/// The value, its members in order.
 ///
-/// It takes memory only where an object of a flat document is inside, or is the value. `AllocError` if a
-/// growth was refused.
+/// It takes memory only where an object is inside, or is the value. `AllocError` if a growth was refused.
 pub fn order<'v>(alloc: Global, value: Kind<'v>) -> Result<Ordered<'v>, AllocError>
     ensures { IfOk result (λ o. ordered_value o ≡ kind_value value.entry) }
 {
@@ -39,12 +38,12 @@ pub fn order<'v>(alloc: Global, value: Kind<'v>) -> Result<Ordered<'v>, AllocErr
     order_kind(alloc, value)
 }
 
-/// Whether an object of a flat document is inside, or is the value.
+/// Whether an object is inside, or is the value.
 #[cycle(holds_object)]
 fn holds_object(value: Kind<'_>) -> bool {
     match value {
-        Kind::Array(Items::Flat(items)) => item_holds_object(Items::Flat(items)),
-        Kind::Object(Members::Flat(_)) => true,
+        Kind::Array(items) => item_holds_object(items),
+        Kind::Object(_) => true,
         _ => false,
     }
 }
@@ -66,8 +65,8 @@ fn order_kind<'v>(alloc: Global, value: Kind<'v>) -> Result<Ordered<'v>, AllocEr
     ensures { IfOk result (λ o. ordered_value o ≡ kind_value value.entry) }
 {
     match value {
-        Kind::Array(Items::Flat(items)) => order_items(alloc, Items::Flat(items)),
-        Kind::Object(Members::Flat(members)) => order_members(alloc, Members::Flat(members)),
+        Kind::Array(items) => order_items(alloc, items),
+        Kind::Object(members) => order_members(alloc, members),
         _ => Ok(Ordered::Plain(value)),
     }
 }

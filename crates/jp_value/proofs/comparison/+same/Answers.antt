@@ -4,8 +4,8 @@ use Rattle.std.specs.Ordering.{int_eq}
 use Rattle.jp_doc.specs.Json.{number, value_of}
 use Rattle.jp_number.specs.Number.{whole}
 use Rattle.jp_number.proofs.Order.{whole_equal}
-use Rattle.jp_node.proofs.Trees.{number_value}
 use Rattle.jp_value.specs.Comparison as spec
+use Rattle.jp_value.proofs.Lent.{number_value}
 use Rattle.jp_value.proofs.comparison.+same.Goals as goal
 
 pub same-returns-in-Number-Number : goal.same-returns-in-Number-Number
