@@ -9,7 +9,7 @@ use lib.IntN.{nat_abs}
 use Rattle.jp_doc.specs.Json.{Json, null, truth, number, text, array, object, Items, no_items, add_item}
 use Rattle.jp_doc.specs.Json.{item_list}
 use Rattle.jp_doc.specs.Location.{Location, node, index, item_at}
-use Rattle.jp_doc.specs.Reading.{max_items}
+use Rattle.jp_doc.specs.Reading.{max_line}
 use Rattle.jp_node.specs.Nodes.{items_at, node_if_some}
 use Rattle.jp_node.specs.Selected.{index_places, slice_places}
 use Rattle.jp_node.specs.Index.{place_of}
@@ -93,7 +93,7 @@ pub place_or_none : (at : Location) (v : Json) (z : ℤ) → pos 0 ≤ℤ z
 place_or_none at v (pos i) low = free_place at v i
 place_or_none at v (negsuc i) low = absurd (omega (arith, ints, low))
 
-pub none_above : (at : Location) (v : Json) (z : ℤ) → item_count v ≤ max_items → pos 0 ≤ℤ z
+pub none_above : (at : Location) (v : Json) (z : ℤ) → item_count v ≤ max_line → pos 0 ≤ℤ z
     → pos max_place <ℤ z → [] ≡ items_at (node at v) (index_places z v)
 none_above at v (pos i) few low high =
     let past : item_count v ≤ i = omega (arith, ints, few, high) in

@@ -6,7 +6,7 @@ use Rattle.jp_node.specs.Slice.{Bounds, meets_rising, meets_falling, numbers_dow
 use Rattle.jp_node.specs.BoundsView.{IsPosition}
 
 -- The greatest place that the code can name: it keeps the place of an item in 32 bits. No array has so many
--- items (`max_items` of `jp_doc`).
+-- items: no line has so many bytes.
 abbrev pub max_place : ℕ
 max_place = 4294967295
 

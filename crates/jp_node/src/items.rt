@@ -1,7 +1,7 @@
 //! Items of an array.
 
 ghost use Rattle.std.specs.Prelude.{◌≡◌, ◌≤◌, [], ◌∷◌, drop, length, MatchOption};
-ghost use Rattle.jp_doc.specs.Reading.{max_items};
+ghost use Rattle.jp_doc.specs.Reading.{max_line};
 ghost use Rattle.jp_node.specs.Inside.{item_values};
 ghost use Rattle.jp_node.specs.Part.{part_value};
 
@@ -32,7 +32,7 @@ impl<'v> Items<'v> {
     /// How many these are. It goes over them.
     pub fn count(self) -> u32
         ensures count { result ≡ length (item_values self.entry) }
-        ensures short { result ≤ max_items }
+        ensures short { result ≤ max_line }
     {
         self.items.count()
     }

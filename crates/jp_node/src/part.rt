@@ -5,7 +5,7 @@ ghost use Rattle.std.specs.Str.{chars};
 ghost use Rattle.jp_doc.specs.Height.{height};
 ghost use Rattle.jp_doc.specs.Json as json;
 ghost use Rattle.jp_doc.specs.Location.{member_of, item_of};
-ghost use Rattle.jp_doc.specs.Reading.{max_items};
+ghost use Rattle.jp_doc.specs.Reading.{max_line};
 ghost use Rattle.jp_flat.specs.Document.{document_value};
 ghost use Rattle.jp_flat.specs.Value.{flat_number, item_count};
 ghost use Rattle.jp_node.specs.Inside.{kind_value, IsInside, IsScalar};
@@ -83,7 +83,7 @@ impl<'v> Part<'v> {
     /// How many items the array has, and 0 of any other value. It goes over them.
     pub fn item_count(self) -> u32
         ensures count { result ≡ item_count (part_value self.entry) }
-        ensures short { result ≤ max_items }
+        ensures short { result ≤ max_line }
     {
         self.value.item_count()
     }
