@@ -104,7 +104,7 @@ fn add_line<R: Threads + Sync, G, F: Form + Drop + Send>(
 {
     match tools.reader.read(asked.policy.numbers, line.bytes)? {
         Ok(document) => {
-            let root = Part::root_of_line(&document);
+            let root = Part::root_of(&document);
             let walk = walk_of(asked, line);
             add_nodes(crew, &mut tools.evaluator, line, (root, walk), written)?;
             Ok(None)

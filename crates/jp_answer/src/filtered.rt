@@ -71,9 +71,9 @@ impl<'q> FilteredEvaluator<'q> {
                     fork: &OpenFork,
                 };
                 self.evaluator
-                    .visit_part_split(crew.rt, root, halving, visitor)
+                    .visit_split(crew.rt, root, halving, visitor)
             }
-            Walking::Straight => self.evaluator.visit_part(root, visitor),
+            Walking::Straight => self.evaluator.visit(root, visitor),
         }
     }
 }

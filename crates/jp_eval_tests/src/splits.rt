@@ -5,7 +5,7 @@ use crate::forks::{Counting, Meeting};
 use jp_check::{Plan, plan};
 use jp_doc::{Document, Location, Step};
 use jp_eval::{Cuts, Evaluator, Halving};
-use jp_flat::{LineDocument, LineReader};
+use jp_flat::LineReader;
 use jp_node::{Locations, Part};
 use jp_number::Numbers;
 use jp_select::{evaluate, evaluate_split};
@@ -109,7 +109,7 @@ fn found_in<R: Threads + Sync>(
     fork: &Counting,
 ) -> Result<Vec<Location>, Fail> {
     let mut reader = LineReader::new(alloc);
-    let Ok(LineDocument::Flat(document)) = reader.read(Numbers::Whole, line.as_bytes())? else {
+    let Ok(document) = reader.read(Numbers::Whole, line.as_bytes())? else {
         return Err("not read".into());
     };
     let root = Part::root_of(&document);

@@ -1,6 +1,6 @@
 //! Calls whose growths of memory a sweep refuses, one after another, each in a run of its own; and counts.
 
-use jp_flat::{LineDocument, LineReader};
+use jp_flat::LineReader;
 use jp_number::Numbers;
 use std::alloc::{AllocError, Global};
 use std::test::Fail;
@@ -15,7 +15,7 @@ fn reads_in_turn(
     let mut was_refused = false;
     for time in 0..times {
         match reader.read(numbers, lines[time % 2]) {
-            Ok(Ok(LineDocument::Flat(_))) => {}
+            Ok(Ok(_)) => {}
             Err(_) if !was_refused => was_refused = true,
             _ => return false,
         }

@@ -1,20 +1,18 @@
 -- What is read from a line, by whatever numbers, is the value of its tree, and has steps as a document has.
-use Rattle.std.proofs.Common.{◌≡◌, ℕ, Bool, true, false, if◌then◌else◌, List, length, Option, Some, None}
+use Rattle.std.proofs.Common.{◌≡◌, ℕ, Bool, true, false, if◌then◌else◌, List, Option, Some, None}
 use Rattle.std.proofs.Common.{Result, Ok, Err, option_map, refl, ◌∙◌, subst}
 use Rattle.std.proofs.lemmas.Str.{IsUtf8-from_is_utf8}
-use Rattle.std.specs.Prelude.{nat_lt}
 use Rattle.std.specs.Str.{is_utf8, IsUtf8}
 use Rattle.json.specs.Json as grammar
-use Rattle.json.specs.Lex.{tokens}
 use Rattle.json.proofs.Found.{not_found, Some_inj}
 use Rattle.serde_json.specs.Data.{Data}
 use Rattle.serde_json.specs.Read.{read}
 use Rattle.jp_doc.specs.Json.{Json}
 use Rattle.jp_doc.specs.Location.{Location, value_at}
-use Rattle.jp_doc.specs.Reading.{reading}
+use Rattle.jp_doc.specs.Reading.{max_items, has_long_array, reading}
 use Rattle.jp_number.specs.declared.numbers.Numbers.{Numbers}
 use Rattle.jp_number.specs.declared.numbers.Numbers.TheVariants.{Whole, Decimals}
-use Rattle.jp_doc.specs.ReadingIn.{max_tokens, has_long_number}
+use Rattle.jp_doc.specs.ReadingIn.{has_long_number}
 use Rattle.jp_doc.specs.ReadingIn.{document_of, tree_reading, or_else, reading_in}
 use Rattle.jp_doc.specs.Tree.{tree_of, tree_json}
 use Rattle.jp_doc.specs.declared.fault.DocFault.{DocFault}
@@ -65,13 +63,13 @@ tested false true line j root u found h = absurd cc
 tested false false line j root u found h = record { utf8 = u; tree = j; found = found; is = cc }
 
 of_tree : (o : Option grammar.Json) (line : List ℕ) (root : Json) → IsUtf8 line → tree_of line ≡ o
-    → document_of o (length (tokens line)) ≡ Ok root → IsOfTree line root
+    → document_of o ≡ Ok root → IsOfTree line root
 of_tree None line root u found h = absurd cc
 of_tree (Some j) line root u found h =
-    tested (has_long_number j) (nat_lt max_tokens (length (tokens line))) line j root u found h
+    tested (has_long_number j) (has_long_array max_items (tree_json j)) line j root u found h
 
 of_tree_if : (b : Bool) (line : List ℕ) (root : Json) → is_utf8 line ≡ b
-    → (if b then document_of (tree_of line) (length (tokens line)) else Err Unreadable) ≡ Ok root
+    → (if b then document_of (tree_of line) else Err Unreadable) ≡ Ok root
     → IsOfTree line root
 of_tree_if true line root e h = of_tree (tree_of line) line root (IsUtf8-from_is_utf8 line e) refl h
 of_tree_if false line root e h = absurd cc

@@ -3,7 +3,7 @@
 
 use crate::lines::{Alike, in_one_pass, is_read_alike};
 use jp_doc::Document;
-use jp_flat::{FlatDocument, FlatKind, FlatMember, FlatValue, LineDocument, LineReader};
+use jp_flat::{FlatDocument, FlatKind, FlatMember, FlatValue, LineReader};
 use jp_number::Numbers;
 use jp_probe_parts::{Row, bytes_of};
 use serde::Serialize;
@@ -36,7 +36,7 @@ struct FlatAnswer {
     behind: String,
 }
 
-/// The answer to what is asked of a value, or `null` where the line is not read flat, or has no such member.
+/// The answer to what is asked of a value, or `null` where the line has a fault, or no such member.
 /// The line is read once before: where that is refused, it is read again by the same reader.
 pub fn answer_flat_value(alloc: Global, row: Row<'_>) -> anyhow::Result<String> {
     row.has_only(&["line", "member", "decimals"])?;
@@ -52,7 +52,7 @@ pub fn answer_flat_value(alloc: Global, row: Row<'_>) -> anyhow::Result<String> 
     let mut reader = LineReader::new(alloc);
     let _was_refused = reader.read(numbers, line).is_err();
     match reader.read(numbers, line)? {
-        Ok(LineDocument::Flat(document)) => told(alloc, &document, member),
+        Ok(document) => told(alloc, &document, member),
         _ => nothing(alloc),
     }
 }

@@ -3,8 +3,8 @@
 
 use crate::beside::same;
 use crate::one_pass::{is_as_laid, is_as_laid_decimal};
-use jp_doc::{DocFault, Document, whole_number};
-use jp_flat::{FlatValue, LineDocument, LineReader};
+use jp_doc::{DocFault, Document};
+use jp_flat::{FlatValue, LineReader};
 use jp_number::Numbers;
 use jp_probe_parts::{Row, bytes_of, text_in};
 use serde::Serialize;
@@ -26,8 +26,8 @@ struct LinesAnswer {
     /// The documents that are read as trees, written compactly, and why there is none.
     trees: Vec<Option<String>>,
     faults: Vec<Option<&'static str>>,
-    /// What the kept reader reads with whole numbers, beside them, by letters: `a` where that is flat and
-    /// alike, `l` where it is the same tree or the same fault, and `u` where it is unlike.
+    /// What the kept reader reads with whole numbers, beside them, by letters: `a` where that is alike, `l`
+    /// where it is the same fault, and `u` where it is unlike.
     flat: String,
     /// How many items each flat document has, and the whole number that is the last of them.
     items: Vec<u32>,
@@ -35,8 +35,8 @@ struct LinesAnswer {
     /// What is read in one pass, beside what is laid of what the kit reads, by the same letters.
     one_pass: String,
     one_pass_decimal: String,
-    /// How each is read by the numbers that it may have: `flat` or `tree`, with the whole number at `$.a`
-    /// behind it, or a fault.
+    /// How each is read by the numbers that it may have: `flat`, with the whole number at `$.a` behind it, or
+    /// a fault.
     whole: Vec<String>,
     decimals: Vec<String>,
 }
@@ -116,8 +116,8 @@ fn tree_told(alloc: Global, line: &[u8]) -> anyhow::Result<(Option<String>, Opti
     }
 }
 
-/// Whether a line is read flat, with whole numbers, as the document that is read as a tree, or is left: it is
-/// read as that tree, or has the fault that this reading has.
+/// Whether a line is read, with whole numbers, as the document that is read as a tree, or is left: it has the
+/// fault that this reading has.
 pub fn is_read_alike(alloc: Global, reader: &mut LineReader, line: &[u8]) -> anyhow::Result<Alike> {
     let tree = match Document::read(alloc, line) {
         Err(DocFault::Memory) => return Err(AllocError.into()),
@@ -125,24 +125,11 @@ pub fn is_read_alike(alloc: Global, reader: &mut LineReader, line: &[u8]) -> any
     };
     match reader.read(Numbers::Whole, line)? {
         Ok(document) => match tree {
-            Ok(tree) => Ok(beside_tree(alloc, &document, &tree)?),
+            Ok(tree) => Ok(said(same(alloc, document.root(), tree.root(), 128)?)),
             Err(_) => Ok(Alike::Unlike),
         },
         Err(fault) if tree.err() == Some(fault) => Ok(Alike::Left),
         Err(_) => Ok(Alike::Unlike),
-    }
-}
-
-/// Whether the document of a line is flat and as the tree, or is left as that tree.
-fn beside_tree(
-    alloc: Global,
-    document: &LineDocument<'_>,
-    tree: &Document,
-) -> Result<Alike, AllocError> {
-    match document {
-        LineDocument::Flat(flat) => Ok(said(same(alloc, flat.root(), tree.root(), 128)?)),
-        LineDocument::Tree(other) if other.root() == tree.root() => Ok(Alike::Left),
-        LineDocument::Tree(_) => Ok(Alike::Unlike),
     }
 }
 
@@ -159,8 +146,8 @@ fn said(is_alike: bool) -> Alike {
 fn items_of(reader: &mut LineReader, line: &[u8]) -> Result<(u32, Option<i128>), AllocError> {
     let _was_refused = reader.read(Numbers::Whole, line).is_err();
     match reader.read(Numbers::Whole, line)? {
-        Ok(LineDocument::Flat(document)) => Ok(last_of(document.root())),
-        _ => Ok((0, None)),
+        Ok(document) => Ok(last_of(document.root())),
+        Err(_) => Ok((0, None)),
     }
 }
 
@@ -197,13 +184,9 @@ fn told_by(
 ) -> Result<String, AllocError> {
     let _was_refused = reader.read(numbers, line).is_err();
     let (form, number) = match reader.read(numbers, line)? {
-        Ok(LineDocument::Flat(flat)) => {
-            let value = flat.root().member("a");
+        Ok(document) => {
+            let value = document.root().member("a");
             ("flat", value.and_then(|value| value.whole()))
-        }
-        Ok(LineDocument::Tree(tree)) => {
-            let value = tree.root().get("a");
-            ("tree", value.and_then(|value| whole_number(value)))
         }
         Err(fault) => (fault.words(), None),
     };

@@ -1,13 +1,13 @@
 //! Objects of few names and of many: `{"wide":{"count":3,"step":2,"twice":true}}` is 3, where all members
 //! come in an order that rises, each with its number.
 
-use jp_flat::{FlatMember, LineDocument, LineReader};
+use jp_flat::{FlatMember, LineReader};
 use jp_number::Numbers;
 use jp_probe_parts::Row;
 use std::alloc::{AllocError, Global};
 
-/// The answer: how many members came so, or `null` where one did not, or the line is not read flat. The
-/// object has all names below the count, each the step further than the one before, and each twice where that
+/// The answer: how many members came so, or `null` where one did not, or the line has a fault. The object
+/// has all names below the count, each the step further than the one before, and each twice where that
 /// is asked.
 pub fn answer_wide(alloc: Global, row: Row<'_>) -> anyhow::Result<String> {
     row.has_only(&["count", "step", "twice"])?;
@@ -42,7 +42,7 @@ fn add_member(alloc: Global, line: &mut Vec<u8>, name: u32, value: u32) -> Resul
 
 /// How many members of the object of a line rise, each with its number.
 fn risen_in(alloc: Global, reader: &mut LineReader, line: &[u8]) -> anyhow::Result<Option<u32>> {
-    let Ok(LineDocument::Flat(document)) = reader.read(Numbers::Whole, line)? else {
+    let Ok(document) = reader.read(Numbers::Whole, line)? else {
         return Ok(None);
     };
     let Some(members) = document.root().members() else {

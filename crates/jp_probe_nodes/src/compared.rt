@@ -4,7 +4,7 @@
 //! The two are read from one line, and compared by all calls, each way round: `?` stands where these tell
 //! otherwise than one another, or where a number's text is not the one that is asked of.
 
-use jp_flat::{FlatKind, FlatValue, LineDocument, LineReader};
+use jp_flat::{FlatKind, FlatValue, LineReader};
 use jp_node::{Kind, Part};
 use jp_number::Numbers;
 use jp_probe_parts::{Row, text_in};
@@ -30,14 +30,12 @@ fn sign_of(alloc: Global, reader: &mut LineReader, pair: &str) -> anyhow::Result
         return Ok('?');
     };
     let line = format!(in alloc; "[{left},{right}]")?;
-    let LineDocument::Flat(document) = reader.read(Numbers::Decimals, line.as_bytes())?? else {
-        return Ok('?');
-    };
+    let document = reader.read(Numbers::Decimals, line.as_bytes())??;
     let (one, other) = (document.root().item(0), document.root().item(1));
     let (Some(one), Some(other)) = (one, other) else {
         return Ok('?');
     };
-    let root = Part::root_of_flat(&document);
+    let root = Part::root_of(&document);
     let (Some(first), Some(second)) = (root.item(0), root.item(1)) else {
         return Ok('?');
     };

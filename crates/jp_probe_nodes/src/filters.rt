@@ -5,7 +5,7 @@ use crate::nodes::numbers_of;
 use jp_check::{filter_in, plan};
 use jp_doc::Document;
 use jp_eval::DocumentFilter;
-use jp_flat::{LineDocument, LineReader};
+use jp_flat::LineReader;
 use jp_node::Part;
 use jp_probe_parts::{Row, text_in};
 use std::alloc::Global;
@@ -31,7 +31,7 @@ fn asked(
     let Some(filter) = filter else {
         return Ok(serde_json::to_string(alloc, &None::<bool>)?);
     };
-    // Whether numbers may be any: then documents are read flat alone.
+    // Whether numbers may be any: then documents are read as lines alone.
     let decimals = row.flag("decimals")?;
     let mut reader = LineReader::new(alloc);
     let mut said = Vec::new(alloc);
@@ -50,14 +50,13 @@ fn asked_of(
     line: &[u8],
     decimals: bool,
 ) -> anyhow::Result<Option<bool>> {
-    let LineDocument::Flat(flat) = reader.read(numbers_of(decimals), line)?? else {
-        return Ok(None);
-    };
-    let said = filter.admits(Part::root_of_flat(&flat))?;
+    let document = reader.read(numbers_of(decimals), line)??;
+    let said = filter.admits(Part::root_of(&document))?;
     if decimals {
         return Ok(Some(said));
     }
     let tree = Document::read(alloc, line)?;
-    let other = filter.admits(Part::root_of(&tree))?;
+    let laid = reader.lay(&tree)?;
+    let other = filter.admits(Part::root_of(&laid))?;
     Ok(if said == other { Some(said) } else { None })
 }

@@ -1,13 +1,13 @@
 //! Nodes that a query selects: `{"nodes":{"query":"$[0,0]","document":"[5]"}}` is `"$[0] $[0]"`, the paths of
 //! the nodes, or `"nothing"`.
 //!
-//! The document is read as a tree and flat, and walked whole and by halves: where not all tell the same, the
-//! answer is a list of what each tells.
+//! The document is read as a tree, which is laid, and as a line, and walked whole and by halves: where not all
+//! tell the same, the answer is a list of what each tells.
 
 use jp_check::{Plan, plan_in};
 use jp_doc::{Document, Location};
 use jp_eval::{Cuts, Evaluator, Halving, OpenFork};
-use jp_flat::{LineDocument, LineReader};
+use jp_flat::LineReader;
 use jp_node::{Locations, Part};
 use jp_number::Numbers;
 use jp_output::write_path;
@@ -21,7 +21,7 @@ use std::thread::Threads;
 #[derive(Clone, Copy)]
 struct AskedNodes<'v> {
     document: &'v str,
-    /// Whether numbers may be any: then the document is read flat alone.
+    /// Whether numbers may be any: then the document is read as a line alone.
     decimals: bool,
     /// The lengths from which on lists are cut into halves.
     floors: &'v [Value],
@@ -123,12 +123,8 @@ impl<'v> AskedNodes<'v> {
         told: &mut Vec<String>,
     ) -> anyhow::Result<()> {
         let mut reader = LineReader::new(alloc);
-        match reader.read(numbers_of(self.decimals), self.document.as_bytes())?? {
-            LineDocument::Flat(document) => {
-                self.tell_part(rt, alloc, plan, Part::root_of_flat(&document), told)
-            }
-            LineDocument::Tree(_) => push_other(told, String::from_str(alloc, "not flat")?),
-        }
+        let document = reader.read(numbers_of(self.decimals), self.document.as_bytes())??;
+        self.tell_part(rt, alloc, plan, Part::root_of(&document), told)
     }
 
     /// Tells what is found in a document, whole and by halves.
@@ -196,7 +192,7 @@ fn found_in(alloc: Global, plan: &Plan, root: Part<'_>) -> anyhow::Result<Locati
     let mut found = Locations {
         locations: Vec::new(alloc),
     };
-    Evaluator::new(alloc, plan.compiled()).visit_part(root, &mut found)?;
+    Evaluator::new(alloc, plan.compiled()).visit(root, &mut found)?;
     Ok(found)
 }
 
@@ -215,6 +211,6 @@ fn found_by_halves<R: Threads + Sync>(
         cuts: Cuts::new(floor, 64),
         fork: &OpenFork,
     };
-    Evaluator::new(alloc, plan.compiled()).visit_part_split(rt, root, halving, &mut found)?;
+    Evaluator::new(alloc, plan.compiled()).visit_split(rt, root, halving, &mut found)?;
     Ok(found)
 }

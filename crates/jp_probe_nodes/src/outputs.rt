@@ -2,7 +2,7 @@
 //! what each form writes of the turns, over trees and over flat documents.
 
 use jp_doc::Document;
-use jp_flat::{LineDocument, LineReader};
+use jp_flat::LineReader;
 use jp_node::{Part, PathStack};
 use jp_number::Numbers;
 use jp_output::{Form, Head, InputLines, NodeLines, RawLines, TextLines, ValueLines, join_chunks};
@@ -129,12 +129,11 @@ fn add_line<F: Form + Drop>(
     form.begin(turn.number("number")?);
     push_full(form, full)?;
     if is_flat {
-        let LineDocument::Flat(document) = reader.read(Numbers::Whole, line)?? else {
-            return Err(anyhow::anyhow!("a line is not read flat"));
-        };
-        add_nodes(alloc, form, turn, Part::root_of_flat(&document))?;
+        let document = reader.read(Numbers::Whole, line)??;
+        add_nodes(alloc, form, turn, Part::root_of(&document))?;
     } else {
-        let document = Document::read(alloc, line)?;
+        let tree = Document::read(alloc, line)?;
+        let document = reader.lay(&tree)?;
         add_nodes(alloc, form, turn, Part::root_of(&document))?;
     }
     push_full(form, full)?;

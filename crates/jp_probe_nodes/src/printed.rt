@@ -4,6 +4,8 @@
 use jp_check::{Plan, plan};
 use jp_doc::{Document, Location};
 use jp_eval::Evaluator;
+use jp_flat::LineReader;
+use jp_node::Part;
 use jp_output::{NodeLines, join_chunks, write_path};
 use jp_path::path_plan;
 use jp_probe_parts::{Row, text_in, text_of};
@@ -29,6 +31,7 @@ pub fn answer_printed(alloc: Global, row: Row<'_>) -> anyhow::Result<String> {
     row.has_only(&["query", "documents", "before", "back"])?;
     let plan = plan(alloc, row.text("query")?)?;
     let mut evaluator = Evaluator::new(alloc, plan.compiled());
+    let mut reader = LineReader::new(alloc);
     let mut lines = NodeLines::new(alloc);
     let mut joined = Vec::new(alloc);
     let mut answer = PrintedAnswer {
@@ -45,7 +48,8 @@ pub fn answer_printed(alloc: Global, row: Row<'_>) -> anyhow::Result<String> {
         number = number.wrapping_add(1);
         let document = Document::read(alloc, text_in(text)?.as_bytes())?;
         lines.begin(number);
-        lines = evaluator.visit(&document, lines)?;
+        let flat = reader.lay(&document)?;
+        evaluator.visit(Part::root_of(&flat), &mut lines)?;
         joined.extend_from_slice(&lines_of(alloc, &plan, &document, number)?)?;
         if is_back {
             run_back(alloc, &plan, &document, number, &mut answer)?;

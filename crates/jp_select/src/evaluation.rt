@@ -11,6 +11,7 @@ ghost use Rattle.jp_eval.specs.Nodelist.{document_nodes};
 use jp_check::Plan;
 use jp_doc::{Document, Location};
 use jp_eval::{Cuts, EvalFault, Evaluator, Fork, Halving};
+use jp_flat::LineReader;
 use jp_node::{Locations, Part, Visit};
 use std::alloc::Global;
 use std::thread::Threads;
@@ -32,7 +33,11 @@ pub fn visit_nodes<V: Visit + Drop>(
         V.kept t ≡ fold V.put (V.kept visitor)
         (document_nodes tests (planned_query plan.now) (document_value document.now))) }
 {
-    Evaluator::new(alloc, plan.compiled()).visit(document, visitor)
+    let mut reader = LineReader::new(alloc);
+    let flat = reader.lay(document)?;
+    let mut visitor = visitor;
+    Evaluator::new(alloc, plan.compiled()).visit(Part::root_of(&flat), &mut visitor)?;
+    Ok(visitor)
 }
 
 /// The locations of the nodes that a query selects in a document, in the order of its nodelist (RFC 9535,
@@ -78,8 +83,10 @@ pub fn evaluate_split<R: Threads + Sync, F: Fork + Sync>(
     let mut found = Locations {
         locations: Vec::new(alloc),
     };
+    let mut reader = LineReader::new(alloc);
+    let flat = reader.lay(document)?;
     let mut evaluator = Evaluator::new(alloc, plan.compiled());
     let halving = Halving { cuts, fork };
-    evaluator.visit_part_split(rt, Part::root_of(document), halving, &mut found)?;
+    evaluator.visit_split(rt, Part::root_of(&flat), halving, &mut found)?;
     Ok(found.locations)
 }
