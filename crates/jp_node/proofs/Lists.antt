@@ -5,7 +5,7 @@ use Rattle.std.proofs.Common.{refl, ap, sym, ◌∙◌, subst, arith}
 use Rattle.std.specs.Str.{chars}
 use Rattle.jp_doc.specs.Height.{height}
 use Rattle.jp_doc.specs.Json as json
-use Rattle.jp_doc.specs.Json.{Text, Json, array, object, items, item_list}
+use Rattle.jp_doc.specs.Json.{Json, array, object, items, item_list}
 use Rattle.jp_doc.specs.Json.{no_items, add_item}
 use Rattle.jp_doc.specs.Json.{add_member}
 use Rattle.jp_flat.specs.Gathered.{entry, gathered}

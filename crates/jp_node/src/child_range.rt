@@ -91,7 +91,7 @@ impl<'c, 'v> ChildRange<'c, 'v> {
     }
 
     /// The first, and those behind it.
-    // Each turn of a walk takes a child so: handed out by a call, the two would go by 120 bytes of memory.
+    // Each turn of a walk takes a child so: handed out by a call, the two would go by memory.
     #[inline(always)]
     pub fn split_first(self) -> Option<(Child<'v>, ChildRange<'c, 'v>)>
         ensures nodes { (at : Location) → MatchOption result (range_nodes at self.entry ≡ [])

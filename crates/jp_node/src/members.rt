@@ -14,7 +14,7 @@ use std::alloc::{AllocError, Global};
 /// The members of an object.
 #[derive(Clone, Copy)]
 pub struct Members<'v> {
-    /// The members, in the order of the line.
+    /// The members.
     pub members: FlatMembers<'v>,
 }
 

@@ -12,10 +12,9 @@ use crate::members::{MemberRange, Members};
 use jp_flat::{FlatMember, FlatMembers};
 
 impl<'v> Members<'v> {
-    /// Whether the members of the object take less of the line than those of another: by how many stand
-    /// there, and the bytes of their names; a repeated name counts as often as it comes. It goes over no more
-    /// of either than the lighter one holds. It tells which of two is the cheaper one to list, and no clause
-    /// says more.
+    /// Whether the members of the object weigh less than those of another: by how many stand there, and the
+    /// bytes of their names; a repeated name counts as often as it comes. It goes over no more of either than
+    /// the lighter one holds. It tells which of two is the cheaper one to list, and no clause says more.
     pub fn is_shorter(self, other: Members<'_>) -> bool {
         let mut ones = self.members;
         let mut others = other.members;

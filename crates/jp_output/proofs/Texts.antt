@@ -1,15 +1,12 @@
 -- The compact text of a value, and what the JSON crate writes for it.
 use Rattle.std.proofs.Common.{◌≡◌, ℕ, Bool, true, false, List, [], ◌∷◌, ◌++◌, refl, ap, sym, ◌∙◌}
-use Rattle.std.proofs.Common.{append_assoc, pos, negsuc, rules}
+use Rattle.std.proofs.Common.{append_assoc, pos, negsuc}
 use Rattle.json.specs.Print.{token_text}
 use Rattle.json.specs.Token.{boolean}
-use Rattle.serde_json.specs.Data as crate_data
-use Rattle.serde_json.specs.View.{view, number_view}
+use Rattle.serde_json.specs.View.{view}
 use Rattle.serde_json.specs.Written.{has_float, compact_text, comma_if}
 use Rattle.serde_json.specs.Written as crate
-use Rattle.serde_json.specs.declared.number.Number as crate_number
-use Rattle.serde_json.specs.declared.value.Value.{Value, the_lemmas}
-use Rattle.serde_json.specs.declared.value.Value.TheVariants as variant
+use Rattle.serde_json.specs.declared.value.Value.{Value}
 use Rattle.jp_doc.proofs.BackLaws.{value_back}
 use Rattle.jp_doc.specs.Json.{Json, null, truth, number, text, array, object, Items, no_items, add_item}
 use Rattle.jp_doc.specs.Json.{Members, no_members, add_member, value_of, number_data, data_of, items_data}
@@ -105,9 +102,3 @@ mutual
 pub view_text : (v : Value) → has_float (view v) ≡ false → compact_text (view v) ≡ value_text (value_of v)
 view_text v h =
     ap compact_text (sym (value_back v h)) ∙ sym (text_same (value_of v) (json_is_whole (view v)))
-
-pub number_written : (v : Value) (n : crate_number.Number) → v ≡ variant.Number n → has_float (view v) ≡ false
-    → crate.number_text (number_view n) ≡ value_text (value_of v)
-number_written v n is h =
-    let seen : view (variant.Number n) ≡ crate_data.number (number_view n) = search (rules, the_lemmas) in
-    ap compact_text (sym seen ∙ ap view (sym is)) ∙ view_text v h

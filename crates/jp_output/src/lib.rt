@@ -4,7 +4,6 @@
 mod chunks;
 mod examples;
 mod fault_line;
-mod flat_text;
 mod form;
 mod head;
 mod input_lines;
@@ -16,7 +15,6 @@ mod output_line;
 mod path;
 mod raw_text;
 mod scalar_text;
-mod tree_text;
 mod unquoted_text;
 mod value_form;
 mod value_per_line;

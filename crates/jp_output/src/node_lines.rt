@@ -25,7 +25,7 @@ use std::marker::Model;
 ///
 /// Its meaning is the head, that number and the bytes of all lines so far. A node takes no allocation but the
 /// growth of what is written, since the scratch buffer that its value's text is made in is used again, and a
-/// list of members for each object of a flat document. The lines of a visitor that is appended stay where
+/// list of members for each object. The lines of a visitor that is appended stay where
 /// they are.
 #[derive(Drop)]
 pub struct NodeLines {
@@ -262,7 +262,7 @@ impl NodeWriter {
         self.front.append_to(out)?;
         path_stack.append_path(out)?;
         out.push(b'\t')?;
-        append_value(alloc, value, &mut self.scratch, out)?;
+        append_value(alloc, value.value, &mut self.scratch, out)?;
         out.push(b'\n')?;
         Ok(())
     }

@@ -22,7 +22,7 @@ pub(crate) fn append_raw(
 {
     match text_of(value) {
         Some(text) => append_bytes(text, out),
-        None => append_value(alloc, value, scratch, out),
+        None => append_value(alloc, value.value, scratch, out),
     }
 }
 

@@ -11,7 +11,6 @@ ghost use Rattle.jp_output.specs.UnquotedText.{unquoted_byte, unquoted_text};
 
 use crate::value_text::append_value;
 use jp_node::Part;
-use serde_json::Value;
 use std::alloc::{AllocError, Global};
 
 /// Appends a text without its quotes, and of any other value its compact text (RFC 8259), with a scratch
@@ -26,7 +25,7 @@ pub(crate) fn append_unquoted(
 {
     match text_of(value) {
         Some(text) => append_text(text, out),
-        None => append_value(alloc, value, scratch, out),
+        None => append_value(alloc, value.value, scratch, out),
     }
 }
 
@@ -34,10 +33,7 @@ pub(crate) fn append_unquoted(
 pub(crate) fn text_of<'v>(value: Part<'v>) -> Option<&'v str>
     ensures { option_map (λ s. chars s.now) result ≡ text_in (part_value value.entry) }
 {
-    match value {
-        Part::Tree(tree) => tree.value.as_str(),
-        Part::Flat(flat) => flat.text(),
-    }
+    value.value.text()
 }
 
 /// Appends a text with the escapes of JSON (RFC 8259, 7) but that of the quotation mark.

@@ -42,7 +42,7 @@ impl ValueForm for Compact {
         scratch: &mut Vec<u8>,
         out: &mut Vec<u8>,
     ) -> Result<(), AllocError> {
-        append_value(alloc, value, scratch, out)
+        append_value(alloc, value.value, scratch, out)
     }
 }
 

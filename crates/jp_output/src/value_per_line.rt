@@ -25,8 +25,8 @@ pub type RawLines = ValuePerLine<Raw>;
 /// Takes nodes as the texts of their values, each with a line feed, behind those before.
 ///
 /// Its meaning is the bytes so far. A node takes no allocation but the growth of what is written, since the
-/// scratch buffer that its text is made in is used again, and a list of members for each object of a flat
-/// document. No path's text is made.
+/// scratch buffer that its text is made in is used again, and a list of members for each object. No path's
+/// text is made.
 #[derive(Drop)]
 pub struct ValuePerLine<T: ValueForm> {
     scratch: Vec<u8>,

@@ -1,4 +1,4 @@
-//! The compact text of a value of a flat document (RFC 8259), appended piece by piece.
+//! The compact text of a value (RFC 8259), appended piece by piece.
 
 ghost use Rattle.std.specs.Prelude.{◌≡◌, ◌++◌, OnOk};
 ghost use Rattle.jp_doc.specs.Json.{Items, array, object};
@@ -16,8 +16,8 @@ use std::alloc::{AllocError, Global};
 ///
 /// Texts that need escapes are made in the scratch buffer. The members of each object are gathered in a list,
 /// since they are written in rising order of their names.
-#[cycle(append_flat)]
-pub(crate) fn append_flat(
+#[cycle(append_value)]
+pub(crate) fn append_value(
     alloc: Global,
     value: FlatValue<'_>,
     scratch: &mut Vec<u8>,
@@ -48,7 +48,7 @@ fn append_comma(later: bool, out: &mut Vec<u8>) -> Result<(), AllocError>
 }
 
 /// Appends the items of an array between brackets.
-#[cycle(append_flat)]
+#[cycle(append_value)]
 fn append_items(
     alloc: Global,
     items: FlatItems<'_>,
@@ -64,7 +64,7 @@ fn append_items(
     let mut left = items;
     while let Some((item, others)) = left.split_first() {
         append_comma(later, out)?;
-        append_flat(alloc, item, scratch, out)?;
+        append_value(alloc, item, scratch, out)?;
         later = true;
         left = others;
     }
@@ -73,7 +73,7 @@ fn append_items(
 }
 
 /// Appends the members of an object between braces.
-#[cycle(append_flat)]
+#[cycle(append_value)]
 fn append_members(
     alloc: Global,
     members: FlatMembers<'_>,
@@ -89,7 +89,7 @@ fn append_members(
 }
 
 /// Appends members as they are listed, between braces.
-#[cycle(append_flat)]
+#[cycle(append_value)]
 fn append_list(
     alloc: Global,
     list: &[FlatMember<'_>],
@@ -105,7 +105,7 @@ fn append_list(
         append_comma(later, out)?;
         append_quoted(alloc, member.name, scratch, out)?;
         out.push(b':')?;
-        append_flat(alloc, member.value, scratch, out)?;
+        append_value(alloc, member.value, scratch, out)?;
         later = true;
     }
     out.push(b'}')?;

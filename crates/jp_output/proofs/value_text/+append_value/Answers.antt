@@ -3,7 +3,7 @@ use Rattle.std.proofs.lemmas.Grind.{common_steps}
 use Rattle.jp_node.proofs.Extending.{extends_on}
 use Rattle.jp_output.proofs.FlatTexts.{next_listed, left_height, array_written, object_written}
 use Rattle.jp_flat.specs.Value.{items_value}
-use Rattle.jp_output.proofs.flat_text.+append_flat.Goals as goal
+use Rattle.jp_output.proofs.value_text.+append_value.Goals as goal
 
 pub append_list-loop-member-preserved : goal.append_list-loop-member-preserved
 append_list-loop-member-preserved t c =
@@ -15,10 +15,10 @@ append_list-loop-member-preserved t c =
     let named = extends_on _ _ _ (extends_on _ _ _ l.invariant.kept c.append_comma.ensures.kept)
     c.append_quoted.ensures.kept in record {
       rest = next_listed l.later m here left _ _ _ _ _ _ first c.in_ok-append_comma.ensures.ok
-          c.in_ok-append_quoted.ensures.ok c.in_ok-push-2.ensures.items c.in_ok-append_flat.ensures.ok
+          c.in_ok-append_quoted.ensures.ok c.in_ok-push-2.ensures.items c.in_ok-append_value.ensures.ok
           l.invariant.rest;
       kept = extends_on _ _ _ (extends_on _ _ _ named (58 ∷ [], c.in_ok-push-2.ensures.items))
-          c.append_flat.ensures.kept;
+          c.append_value.ensures.kept;
       height = left_height m here left _ first l.invariant.height;
     }
 

@@ -5,10 +5,10 @@ use Rattle.jp_flat.specs.Gathered.{gathered}
 use Rattle.jp_flat.specs.Value.{flat_value, items_value, items_left, members_value}
 use Rattle.jp_node.specs.Appended.{Extends}
 use Rattle.jp_output.proofs.FlatTexts.{items_rest, members_rest}
-use Rattle.jp_output.proofs.flat_text.+append_flat.Given as goal
+use Rattle.jp_output.proofs.value_text.+append_value.Given as goal
 
-abbrev pub decreases-append_flat : goal.decreases-append_flat
-decreases-append_flat l = 3 * height (flat_value l.value) + 2
+abbrev pub decreases-append_value : goal.decreases-append_value
+decreases-append_value l = 3 * height (flat_value l.value) + 2
 
 abbrev pub decreases-append_items : goal.decreases-append_items
 decreases-append_items l = 3 * height (items_value l.items)
