@@ -70,8 +70,7 @@ impl<'q> FilteredEvaluator<'q> {
                     cuts,
                     fork: &OpenFork,
                 };
-                self.evaluator
-                    .visit_split(crew.rt, root, halving, visitor)
+                self.evaluator.visit_split(crew.rt, root, halving, visitor)
             }
             Walking::Straight => self.evaluator.visit(root, visitor),
         }

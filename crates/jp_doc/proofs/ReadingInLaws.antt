@@ -127,7 +127,8 @@ same_by_tree : (b : Bool) (line : List ℕ) (j : grammar.Json) (v : Json) → ha
     → (document_of (Some j) ≡ Err LongNumber → ⊥) → document_of (Some j) ≡ Ok v
 same_by_tree true line j v long same short other = absurd (other (rw long refl))
 same_by_tree false line j v long same short other =
-    ap (λ b. if b then Err LongNumber else unless_long (tree_json j)) long ∙ ap unless_long same ∙ rw short refl
+    ap (λ b. if b then Err LongNumber else unless_long (tree_json j)) long ∙ ap unless_long same
+    ∙ rw short refl
 
 utf8_if : (b : Bool) (line : List ℕ) (d : Data) → is_utf8 line ≡ b
     → (if b then read line else None) ≡ Some d → is_utf8 line ≡ true

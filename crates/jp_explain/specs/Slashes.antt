@@ -2,7 +2,8 @@
 use Rattle.std.specs.Prelude.{ℕ, ◌≡◌, if◌then◌else◌, ◌==◌, ◌||◌, Bool, [], ◌∷◌}
 use Rattle.jp_tree.specs.Tree.{Text}
 use Rattle.jp_explain.specs.declared.slashes.Slashes.{Slashes}
-use Rattle.jp_explain.specs.declared.slashes.Slashes.TheVariants.{Start, Opened, Inside, Closed, Flagged, Other}
+use Rattle.jp_explain.specs.declared.slashes.Slashes.TheVariants.{Start, Opened, Inside, Closed}
+use Rattle.jp_explain.specs.declared.slashes.Slashes.TheVariants.{Flagged, Other}
 
 -- a letter that other languages write behind the second slash: one of g, i, m, s, u, x and y
 abbrev pub is_flag : ℕ → Bool

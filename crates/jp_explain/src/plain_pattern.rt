@@ -175,8 +175,8 @@ fn in_either_case(alloc: Global, characters: &[char]) -> Result<Option<String>, 
     Ok(Some(text))
 }
 
-/// What a pattern of other engines is in plain words, without its slashes and anchors; none where something in
-/// it has no such words. Whether it is an I-Regexp is not said.
+/// What a pattern of other engines is in plain words, without its slashes and anchors; none where something
+/// in it has no such words. Whether it is an I-Regexp is not said.
 pub(crate) fn plain_pattern(alloc: Global, text: &str) -> Result<Option<String>, AllocError> {
     let (between, flags) = without_slashes(text);
     let characters: Vec<char> = between.chars().collect(alloc)?;

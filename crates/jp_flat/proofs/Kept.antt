@@ -62,8 +62,8 @@ short_by_nodes v end n passes later few =
     ap (has_long_array n) (value_is (tokens_of v) f) ∙ tree_is_short f.source n most
 
 -- a value that is no longer than it may be is told as it is
-told_if : (b : Bool) (v w : doc.Json) → ◌≡◌ {A = Result doc.Json DocFault} (Ok v) (if b then Err LongArray else Ok w)
-    → w ≡ v
+told_if : (b : Bool) (v w : doc.Json)
+    → ◌≡◌ {A = Result doc.Json DocFault} (Ok v) (if b then Err LongArray else Ok w) → w ≡ v
 told_if true v w h = absurd (cc)
 told_if false v w h = cc
 

@@ -1,6 +1,7 @@
 -- What the JSON crate prints for the value of a document has a plain tree.
 use Rattle.std.proofs.Common.{◌≡◌, ◌≢◌, ℕ, ◌<◌, ◌≤◌, Bool, true, false, ◌&&◌, List, [], ◌++◌, length, Option}
-use Rattle.std.proofs.Common.{Some, None, Result, Ok, Err, option_and_then, refl, sym, ap, ◌∙◌, subst, append-nil}
+use Rattle.std.proofs.Common.{Some, None, Result, Ok, Err, option_and_then, refl, sym, ap, ◌∙◌, subst}
+use Rattle.std.proofs.Common.{append-nil}
 use Rattle.std.proofs.Common.{append_assoc, arith}
 use Rattle.std.proofs.lemmas.Str.{is_utf8-from_IsUtf8}
 use Rattle.std.specs.Prelude.{is_some}
@@ -21,7 +22,8 @@ use Rattle.json.proofs.Printed.Trees.{value-json_tokens}
 use Rattle.serde_json.specs.Data.{Num, unsigned, negative, float, Data, null, boolean, number, string, array}
 use Rattle.serde_json.specs.Data.{object, Items, no_items, item, Members, no_members, member, depth}
 use Rattle.serde_json.specs.Read.{number_of, of_json, read, max_depth}
-use Rattle.serde_json.specs.Written.{number_text, unless_float, outline, items_outline, members_outline, blank}
+use Rattle.serde_json.specs.Written.{number_text, unless_float, outline, items_outline, members_outline}
+use Rattle.serde_json.specs.Written.{blank}
 use Rattle.serde_json.specs.Written.{blank_items, blank_members, IsInOrder, has_float}
 use Rattle.serde_json.specs.View.{view}
 use Rattle.serde_json.specs.declared.value.Value.{Value}
@@ -229,8 +231,8 @@ laid_on (Err e) s bytes nodes tape laid v p is same are linked within = tt
 pub some_tape : (s : List ℕ) (v : Json) → IsPrinted s v → text.document s ≡ None → ⊥
 some_tape s v p none = not_found p.tree (sym (no_tree s none) ∙ p.found)
 
-pub no_error : {T : Type 0} (s line : List ℕ) (v : Json) (r : Result T tape.Error) (e : tape.Error) → r ≡ Err e
-    → (e ≡ OutOfMemory → ⊥) → (r ≡ Err Invalid → text.document s ≡ None)
+pub no_error : {T : Type 0} (s line : List ℕ) (v : Json) (r : Result T tape.Error) (e : tape.Error)
+    → r ≡ Err e → (e ≡ OutOfMemory → ⊥) → (r ≡ Err Invalid → text.document s ≡ None)
     → (r ≡ Err TooLong → 4294967040 < length s) → (r ≡ Err DuplicateKey → ⊥) → s ≡ line → IsPrinted line v
     → ⊥
 no_error s line v r Invalid e other invalid long twice same p =

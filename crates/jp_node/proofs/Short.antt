@@ -24,4 +24,5 @@ items_are_few i =
     subst (λ n. n ≤ max_line) (counted (items_value i.items)) (few_items _ i.items.flat)
 
 pub part_is_short : (p : Part) → item_count (part_value p) ≤ max_line
-part_is_short p = kept.few_items (flat_value p.value) max_line (flat_is_short (tokens_of p.value) p.value.flat)
+part_is_short p =
+    kept.few_items (flat_value p.value) max_line (flat_is_short (tokens_of p.value) p.value.flat)

@@ -1,8 +1,8 @@
 //! Nodes that a query selects: `{"nodes":{"query":"$[0,0]","document":"[5]"}}` is `"$[0] $[0]"`, the paths of
 //! the nodes, or `"nothing"`.
 //!
-//! The document is read as a tree, which is laid, and as a line, and walked whole and by halves: where not all
-//! tell the same, the answer is a list of what each tells.
+//! The document is read as a tree, which is laid, and as a line, and walked whole and by halves: where not
+//! all tell the same, the answer is a list of what each tells.
 
 use jp_check::{Plan, plan_in};
 use jp_doc::{Document, Location};

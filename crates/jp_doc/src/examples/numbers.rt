@@ -53,7 +53,7 @@ fn numbers_in_trees()
 {}
 
 // The tests of a tree in their order: its numbers, wherever they stand, and then the arrays of its value.
-#[tactic(auto, unfolding(crate::proofs::OnLiterals::documents_on_literals), using(crate::proofs::ReadingInLaws::long_list, crate::proofs::ReadingInLaws::number_in_a_list))]
+#[tactic(auto, unfolding(crate::proofs::OnLiterals::documents_on_literals))]
 fn tests_of_a_tree()
     ensures none { document_of None ≡ Err Unreadable }
     ensures value { document_of (Some grammar.null) ≡ Ok null }

@@ -10,4 +10,5 @@ after-requires c =
 
 pub returns : goal.returns
 returns c n few =
-    short_by_nodes c.args.self c.after.result n c.after.ensures.value c.after.ensures.later (omega (arith, few))
+    short_by_nodes c.args.self c.after.result n c.after.ensures.value c.after.ensures.later
+    (omega (arith, few))
