@@ -17,6 +17,7 @@ use Rattle.jp_compiled.specs.declared.query.Want.TheVariants as want
 use Rattle.jp_found.specs.Aggregates.{tells}
 use Rattle.jp_eval.specs.inner.Base.{base_of}
 use Rattle.jp_node.specs.BoundsView.{bounds_value}
+use Rattle.jp_value.specs.Comparison.{compared}
 use Rattle.jp_value.specs.Functions.{tested, length_value}
 use Rattle.jp_value.specs.Functions.{exactly_one}
 use Rattle.jp_node.specs.ChildNodes.{listed_nodes}
@@ -634,3 +635,17 @@ pub give-returns-in-Some-clause-value : goal.give-returns-in-Some-clause-value
 give-returns-in-Some-clause-value g t c =
     let n = here c.args.path.now c.args.value in
     c.in-Some.ensures n
+
+pub compare-returns-in-Some-clause-truth : goal.compare-returns-in-Some-clause-truth
+compare-returns-in-Some-clause-truth g t c =
+    let n = here c.args.path.now c.args.value in
+    IfOk-weaker c.compare_ordered.result _ _ (λ b e. e
+    ∙ ap₂ (compared c.args.operator) c.in_ok-given.ensures.value (sym (c.in-Some.ensures n)))
+    c.compare_ordered.ensures
+
+pub compare-returns-in-Some-ordered-clause-truth : goal.compare-returns-in-Some-ordered-clause-truth
+compare-returns-in-Some-ordered-clause-truth g t c =
+    let n = here c.args.path.now c.args.value in
+    IfOk-weaker c.compare_ordered-in-Some-ordered.result _ _ (λ b e. e ∙ c.turned.ensures _ _
+    ∙ ap₂ (compared c.args.operator) (sym (c.in-Some-ordered.ensures n)) c.in_ok-given-2.ensures.value)
+    c.compare_ordered-in-Some-ordered.ensures

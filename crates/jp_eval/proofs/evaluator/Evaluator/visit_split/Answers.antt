@@ -20,6 +20,10 @@ returns-clause-nodes g c = λ tests right.
     ∙ ap₂ (λ kept query. fold g.V.Visit.put kept (document_nodes tests query (part_value c.args.root)))
     (c.in_ok-visit_directly.ensures.other c.if-branch.false) c.visit_directly.ensures.query
 
+pub returns-then-branch-clause-nodes : goal.returns-then-branch-clause-nodes
+returns-then-branch-clause-nodes g c = λ tests right.
+    c.in_ok-visit_directly.ensures.direct c.if-branch.true tests
+
 pub visitor_of-requires : goal.visitor_of-requires
 visitor_of-requires g c =
     still_taken g.V.Visit.put _ _ _
