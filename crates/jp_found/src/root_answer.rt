@@ -24,7 +24,7 @@ pub struct RootAnswer<'v> {
     pub length: Length,
     /// The pattern that its value is, where that is a text, and texts are matched with one.
     pattern: Option<ReadPattern<'v>>,
-    /// Its value, where values of nodes are compared with it and an object of a line is inside.
+    /// Its value, where values of nodes are compared with it and an object is inside.
     ordered: Option<Ordered<'v>>,
     ghost length_is: { is_length length answer ≡ true },
     ghost pattern_is: { is_pattern pattern answer ≡ true },
