@@ -6,6 +6,8 @@ use jp_answer::OpenGate;
 use jp_check::{Plan, plan};
 use jp_doc::{DocFault, Document, Line};
 use jp_eval::Evaluator;
+use jp_flat::LineReader;
+use jp_node::Part;
 use jp_output::NodeLines;
 use jp_run::answer_all;
 use std::alloc::{AllocError, Global};
@@ -142,12 +144,16 @@ fn lines(alloc: Global, count: u64) -> Result<Vec<Line>, AllocError> {
 /// The answer of a plan that each line's tree gives, and how many lines are faulty.
 fn by_trees(alloc: Global, plan: &Plan, lines: &[Line]) -> Result<(Vec<u8>, u64), Fail> {
     let mut evaluator = Evaluator::new(alloc, plan.compiled());
+    let mut reader = LineReader::new(alloc);
     let mut written = NodeLines::new(alloc);
     let mut faulty = 0u64;
     for line in lines {
         written.begin(line.number);
         match Document::read(alloc, &line.bytes) {
-            Ok(document) => written = evaluator.visit(&document, written)?,
+            Ok(tree) => {
+                let document = reader.lay(&tree)?;
+                evaluator.visit(Part::root_of(&document), &mut written)?;
+            }
             Err(DocFault::Memory) => return Err(AllocError.into()),
             Err(fault) => {
                 written.push_fault(alloc, &fault)?;

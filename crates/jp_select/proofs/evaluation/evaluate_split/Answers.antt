@@ -15,11 +15,11 @@ returns g c = record {
       let planned = planned_query c.args.plan.now in
       let root = document_value c.args.document.now in
       let ns = document_nodes t planned root in
-      c.in_ok-visit_part_split.ensures.nodes t right
+      c.in_ok-visit_split.ensures.nodes t right
       ∙ ap (λ q. fold put_location (map location_of c.new.result.items)
       (document_nodes t q (part_value c.root_of.result))) (c.new-evaluator.ensures ∙ c.compiled.ensures)
       ∙ ap (λ v. fold put_location (map location_of c.new.result.items) (document_nodes t planned v))
-      c.root_of.ensures
+      (c.root_of.ensures ∙ c.in_ok-flat.ensures)
       ∙ ap (λ xs. fold put_location (map location_of xs) ns)
       c.new.ensures.items ∙ locations_fold [] ns;
 }
