@@ -3,7 +3,7 @@
 ghost use Rattle.std.specs.Prelude.{◌≡◌, ◌≤◌, option_map};
 ghost use Rattle.std.specs.Option.{ForSome};
 ghost use Rattle.jp_compiled.specs.Parts.{position_text};
-ghost use Rattle.jp_doc.specs.Reading.{max_items};
+ghost use Rattle.jp_doc.specs.Reading.{max_line};
 ghost use Rattle.jp_node.specs.BoundsView.{bounds_value, IsPosition};
 ghost use Rattle.jp_node.specs.Places.{AreWithin};
 ghost use Rattle.jp_node.specs.Slice as spec;
@@ -25,7 +25,7 @@ fn written(number: &Option<Position>) -> Option<i64>
 
 /// The bounds that a slice selector has in an array with `len` items.
 pub fn bounds_of(slice: &CompiledSlice, len: u32) -> Bounds
-    requires { len ≤ max_items }
+    requires { len ≤ max_line }
     ensures within { AreWithin (bounds_value result) len }
     ensures bounds { bounds_value result
         ≡ spec.slice_bounds (written_value (option_map position_text slice.now.first))
