@@ -30,7 +30,7 @@ use crate::quoting::{print_literal, value_to_quote};
 use crate::turn::{Search, run_named};
 use crate::witness::Witness;
 use jp_answer::OnFault;
-use jp_run::{Cutting, Prepared, RunFault, Sink, Source, Totals, write_all};
+use jp_run::{Buffers, Cutting, Prepared, RunFault, Sink, Source, Totals, write_all};
 use std::alloc::{AllocError, AllocGlobal, Global};
 use std::thread::Threads;
 
@@ -326,10 +326,11 @@ fn done<R: Threads + AllocGlobal + Sync, S: Source<K>, I: Inputs<S>, K: Sink, N:
                 wanted: &wanted,
                 prepared: &prepared,
             };
+            let mut buffers = Buffers::new(rt.alloc());
             if is_alone {
-                return run_named(&search, "-", source, sink);
+                return run_named(&search, "-", &mut buffers, source, sink);
             }
-            answer_files(&search, inputs, source, sink, notes)
+            answer_files(&search, &mut buffers, inputs, source, sink, notes)
         }
     }
 }

@@ -18,7 +18,7 @@ use crate::file_notes::tell_failed_file;
 use crate::inputs::Inputs;
 use crate::turn::{Search, run_named};
 use jp_answer::OnFault;
-use jp_run::{Cutting, RunFault, Sink, Source, Totals};
+use jp_run::{Buffers, Cutting, RunFault, Sink, Source, Totals};
 use std::alloc::{AllocGlobal, Global};
 use std::thread::Threads;
 
@@ -41,6 +41,7 @@ pub(crate) fn answer_files<
     N: Sink,
 >(
     search: &Search<'_, '_, '_, '_, R>,
+    buffers: &mut Buffers,
     inputs: &mut I,
     source: &mut S,
     sink: &mut K,
@@ -96,7 +97,16 @@ pub(crate) fn answer_files<
     };
     let names = search.wanted.files.as_slice();
     for name in names {
-        let next = answer_next(search, name, seen.has_failed, inputs, source, sink, notes)?;
+        let next = answer_next(
+            search,
+            name,
+            seen.has_failed,
+            buffers,
+            inputs,
+            source,
+            sink,
+            notes,
+        )?;
         seen = both(&seen, &next);
     }
     if !seen.has_failed {
@@ -148,6 +158,7 @@ fn answer_next<R: Threads + AllocGlobal + Sync, S: Source<K>, I: Inputs<S>, K: S
     search: &Search<'_, '_, '_, '_, R>,
     name: &str,
     has_failed: bool,
+    buffers: &mut Buffers,
     inputs: &mut I,
     source: &mut S,
     sink: &mut K,
@@ -192,7 +203,7 @@ fn answer_next<R: Threads + AllocGlobal + Sync, S: Source<K>, I: Inputs<S>, K: S
       sink_failed = K.failed sink.new;
     }) fault (named (I.holds inputs.old) name.now) (K.contents sink.old) (K.contents sink.new)) }
 {
-    match answer_file(search, name, inputs, source, sink) {
+    match answer_file(search, name, buffers, inputs, source, sink) {
         Ok(totals) => Ok(Seen {
             totals,
             has_failed: false,
@@ -219,6 +230,7 @@ fn answer_next<R: Threads + AllocGlobal + Sync, S: Source<K>, I: Inputs<S>, K: S
 fn answer_file<R: Threads + AllocGlobal + Sync, S: Source<K>, I: Inputs<S>, K: Sink>(
     search: &Search<'_, '_, '_, '_, R>,
     name: &str,
+    buffers: &mut Buffers,
     inputs: &mut I,
     source: &mut S,
     sink: &mut K,
@@ -258,5 +270,5 @@ fn answer_file<R: Threads + AllocGlobal + Sync, S: Source<K>, I: Inputs<S>, K: S
     if inputs.open(name, source).is_err() {
         return Err(RunFault::Read);
     }
-    run_named(search, name, source, sink)
+    run_named(search, name, buffers, source, sink)
 }

@@ -20,7 +20,7 @@ ghost use Rattle.jp_program.specs.Outcome.{IsEmptyAnswer, IsKnownEmptyAnswer, as
 use crate::command_line::Wanted;
 use crate::witness::{NamedWitness, Witness};
 use jp_answer::Crew;
-use jp_run::{Prepared, RunFault, Settings, Sink, Source, Totals};
+use jp_run::{Buffers, Prepared, RunFault, Settings, Sink, Source, Totals};
 use std::alloc::AllocGlobal;
 use std::thread::Threads;
 
@@ -62,10 +62,11 @@ fn told_name<'n>(wanted: &Wanted<'_>, name: &'n str) -> Option<&'n str>
     }
 }
 
-/// Answers the wanted query over the input of this name.
+/// Answers the wanted query over the input of this name, which is read into what the buffers keep.
 pub(crate) fn run_named<R: Threads + AllocGlobal + Sync, S: Source<K>, K: Sink>(
     search: &Search<'_, '_, '_, '_, R>,
     name: &str,
+    buffers: &mut Buffers,
     source: &mut S,
     sink: &mut K,
 ) -> Result<Totals, RunFault>
@@ -119,5 +120,5 @@ pub(crate) fn run_named<R: Threads + AllocGlobal + Sync, S: Source<K>, K: Sink>(
         alloc: search.rt.alloc(),
         gate: &gate,
     };
-    search.prepared.run(&crew, &settings, source, sink)
+    search.prepared.run(&crew, &settings, buffers, source, sink)
 }

@@ -5,6 +5,7 @@
 mod answering;
 mod answers;
 mod beside;
+mod buffers;
 mod cutting;
 mod ends;
 mod examples;
@@ -29,6 +30,7 @@ mod turns;
 mod writing;
 
 pub use answers::{answer, answer_all};
+pub use buffers::Buffers;
 pub use cutting::Cutting;
 pub use ends::{Broken, Sink, Source, Supply};
 pub use fault::RunFault;

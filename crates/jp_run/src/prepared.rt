@@ -11,6 +11,7 @@ ghost use Rattle.jp_check.specs.Verdict.{IsAcceptedIn, IsVerdictIn};
 ghost use Rattle.jp_eval.specs.Filter.{asked_filter};
 ghost use Rattle.jp_run.specs.AskedTexts.{AreAcceptedIn, AreRefusedIn, IsFilterOf, IsFilterRefused, texts};
 
+use crate::buffers::Buffers;
 use crate::ends::{Sink, Source};
 use crate::fault::RunFault;
 use crate::job::Job;
@@ -76,8 +77,9 @@ impl Prepared {
     }
 
     /// Runs what is prepared over all documents of the source, as [`run`](crate::run) does where the texts
-    /// are those that it was prepared of: by these settings, but for their filter. Neither end has failed
-    /// before, and the counts of the source are at most 2^62.
+    /// are those that it was prepared of: by these settings, but for their filter. It reads into what the
+    /// buffers keep, and leaves them what the next run reads into. Neither end has failed before, and the
+    /// counts of the source are at most 2^62.
     ///
     /// # Errors
     ///
@@ -86,6 +88,7 @@ impl Prepared {
         &self,
         crew: &Crew<R, G>,
         settings: &Settings<'_>,
+        buffers: &mut Buffers,
         source: &mut S,
         sink: &mut K,
     ) -> Result<Totals, RunFault>
@@ -107,7 +110,7 @@ impl Prepared {
             settings: *settings,
             head: &head,
         };
-        answer_in_form(&job, source, sink)
+        answer_in_form(&job, buffers, source, sink)
     }
 
     /// What asks the filter, if there is one, of documents. It takes no memory.

@@ -21,6 +21,7 @@ ghost use Rattle.jp_run.specs.Limits.{max_reads, max_lines, window};
 ghost use Rattle.jp_run.specs.Prompt.{IsNear, IsPrompt};
 ghost use Rattle.jp_run.specs.Written.{AppendsFront, IsPassedOn};
 
+use crate::buffers::Buffers;
 use crate::ends::{Sink, Source};
 use crate::fault::RunFault;
 use crate::gathering::Came;
@@ -193,12 +194,14 @@ pub fn run<R: Threads + Sync, S: Source<K>, K: Sink, G: Gate + Sync>(
 {
     let prepared = Prepared::new(alloc, query, settings.filter, settings.numbers)?;
     let crew = Crew { rt, alloc, gate };
-    prepared.run(&crew, settings, source, sink)
+    let mut buffers = Buffers::new(alloc);
+    prepared.run(&crew, settings, &mut buffers, source, sink)
 }
 
 /// Reads a source to its end, and answers what comes, in the form that is wanted.
 pub(crate) fn answer_in_form<R: Threads + Sync, S: Source<K>, K: Sink, G: Gate + Sync>(
     job: &Job<R, G>,
+    buffers: &mut Buffers,
     source: &mut S,
     sink: &mut K,
 ) -> Result<Totals, RunFault>
@@ -208,17 +211,18 @@ pub(crate) fn answer_in_form<R: Threads + Sync, S: Source<K>, K: Sink, G: Gate +
         sink.old sink.new result }
 {
     match job.settings.output {
-        Output::Nodes => answer_stream::<R, S, K, G, NodeLines>(job, source, sink),
-        Output::Values => answer_stream::<R, S, K, G, ValueLines>(job, source, sink),
-        Output::Texts => answer_stream::<R, S, K, G, TextLines>(job, source, sink),
-        Output::Raw => answer_stream::<R, S, K, G, RawLines>(job, source, sink),
-        Output::Lines => answer_stream::<R, S, K, G, InputLines>(job, source, sink),
+        Output::Nodes => answer_stream::<R, S, K, G, NodeLines>(job, buffers, source, sink),
+        Output::Values => answer_stream::<R, S, K, G, ValueLines>(job, buffers, source, sink),
+        Output::Texts => answer_stream::<R, S, K, G, TextLines>(job, buffers, source, sink),
+        Output::Raw => answer_stream::<R, S, K, G, RawLines>(job, buffers, source, sink),
+        Output::Lines => answer_stream::<R, S, K, G, InputLines>(job, buffers, source, sink),
     }
 }
 
 /// Reads a source to its end, and answers what comes, in some form.
 fn answer_stream<R: Threads + Sync, S: Source<K>, K: Sink, G: Gate + Sync, F: Form + Drop + Send>(
     job: &Job<R, G>,
+    buffers: &mut Buffers,
     source: &mut S,
     sink: &mut K,
 ) -> Result<Totals, RunFault>
@@ -229,6 +233,7 @@ fn answer_stream<R: Threads + Sync, S: Source<K>, K: Sink, G: Gate + Sync, F: Fo
 {
     let mut stream = Stream::new(
         job.crew.alloc,
+        buffers,
         job.settings.cutting,
         job.settings.before,
         MAX_READS,
@@ -238,7 +243,11 @@ fn answer_stream<R: Threads + Sync, S: Source<K>, K: Sink, G: Gate + Sync, F: Fo
     while stream.left > 0 {
         match turn::<R, S, K, G, F>(job, source, sink, &mut stream)? {
             Came::More => {}
-            Came::End => return answer_rest::<R, K, G, F>(job, sink, &mut stream),
+            Came::End => {
+                let ended = answer_rest::<R, K, G, F>(job, sink, &mut stream);
+                stream.end(buffers);
+                return ended;
+            }
             Came::Failure => {
                 return Err(answer_before_failure::<R, K, G, F>(job, sink, &mut stream));
             }

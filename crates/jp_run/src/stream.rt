@@ -3,9 +3,9 @@
 ghost use Rattle.std.specs.Prelude.{◌≡◌, ◌<◌, IfOk, vec_len, false};
 ghost use Rattle.jp_run.specs.inner.Input.{nothing_come};
 
+use crate::buffers::Buffers;
 use crate::cutting::Cutting;
 use crate::input::InputBuffer;
-use crate::limits::READ_SIZE;
 use std::alloc::{AllocError, Global};
 
 /// The lines of a run between the source and the sink, and how far the answer has come.
@@ -44,9 +44,11 @@ pub(crate) struct Passed {
 }
 
 impl Stream {
-    /// No lines, cut so, behind so many, and so many calls of `read` left.
+    /// No lines, cut so, behind so many, and so many calls of `read` left. What it reads into is taken from
+    /// the buffers.
     pub(crate) fn new(
         alloc: Global,
+        buffers: &mut Buffers,
         cutting: Cutting,
         before: u64,
         left: u64,
@@ -59,7 +61,7 @@ impl Stream {
     {
         // A source may write anything into what it is given, also where it fails: so that is no line's
         // memory.
-        let scratch = vec![in alloc; 0u8; READ_SIZE]?;
+        let scratch = buffers.take(alloc)?;
         Ok(Stream {
             scratch,
             left,
@@ -71,5 +73,12 @@ impl Stream {
                 wrote: false,
             },
         })
+    }
+
+    /// Gives what was read into back to the buffers.
+    pub(crate) fn end(self, buffers: &mut Buffers)
+        ensures { buffers.new.scratch ≡ self.scratch }
+    {
+        buffers.give(self.scratch);
     }
 }

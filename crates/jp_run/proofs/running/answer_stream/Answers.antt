@@ -56,18 +56,18 @@ returns-in_err-turn g c =
           (search rules);
     }
 
-pub answer_rest-requires-clause-behind : goal.answer_rest-requires-clause-behind
-answer_rest-requires-clause-behind g c κs within =
+pub answer_rest-ended-requires-clause-behind : goal.answer_rest-ended-requires-clause-behind
+answer_rest-ended-requires-clause-behind g c κs within =
     let done = c.in_ok-turn.ensures.turned.stands _ _ c.loop-stream.invariant.stands in
     behind_others _ _ _ _ _ _ _ done
 
-pub answer_rest-requires-clause-few : goal.answer_rest-requires-clause-few
-answer_rest-requires-clause-few g c κs within =
+pub answer_rest-ended-requires-clause-few : goal.answer_rest-ended-requires-clause-few
+answer_rest-ended-requires-clause-few g c κs within =
     let done = c.in_ok-turn.ensures.turned.stands _ _ c.loop-stream.invariant.stands in
     few_lines _ _ _ _ _ _ _ done max_lines c.in_ok-turn.ensures.turned.few_lines
 
-pub answer_rest-requires-clause-few_faulty : goal.answer_rest-requires-clause-few_faulty
-answer_rest-requires-clause-few_faulty g c κs within =
+pub answer_rest-ended-requires-clause-few_faulty : goal.answer_rest-ended-requires-clause-few_faulty
+answer_rest-ended-requires-clause-few_faulty g c κs within =
     let done = c.in_ok-turn.ensures.turned.stands _ _ c.loop-stream.invariant.stands in
     few_faulty _ _ _ _ _ _ _ done
 
@@ -77,26 +77,26 @@ returns-in-End g c =
     let turned = c.turn.ensures.turned in
     let done = c.in_ok-turn.ensures.turned.stands _ _ inv.stands in
     let end = subst (CameSo _ _) c.in-End.is c.in_ok-turn.ensures.turned.came in
-    let rest = c.answer_rest.ensures in
+    let rest = c.answer_rest-ended.ensures in
     let settings = c.args.job.now.settings in
     record {
       ran = record {
-        handed = rest_ok _ _ _ _ _ _ _ _ done end.1 c.answer_rest.result rest.handed;
-        counts = totals_ok _ _ _ _ _ _ (g.K.Sink.contents c.answer_rest.new.sink) _ done end.1
-            c.answer_rest.result rest.lines rest.documents;
-        passed = faulty_ok _ _ _ _ _ _ (g.K.Sink.contents c.answer_rest.new.sink) _ done end.1
-            c.answer_rest.result rest.passed;
+        handed = rest_ok _ _ _ _ _ _ _ _ done end.1 c.answer_rest-ended.result rest.handed;
+        counts = totals_ok _ _ _ _ _ _ (g.K.Sink.contents c.answer_rest-ended.new.sink) _ done end.1
+            c.answer_rest-ended.result rest.lines rest.documents;
+        passed = faulty_ok _ _ _ _ _ _ (g.K.Sink.contents c.answer_rest-ended.new.sink) _ done end.1
+            c.answer_rest-ended.result rest.passed;
         none_passed = none_ok settings.on_fault settings.numbers
             (documents_in (numbering_of settings) done.front)
-            _ _ c.answer_rest.result done.faulty rest.passed;
-        wrote = wrote_ok _ _ _ _ _ _ (g.K.Sink.contents c.answer_rest.new.sink) _ done end.1
-            c.answer_rest.result rest.wrote;
+            _ _ c.answer_rest-ended.result done.faulty rest.passed;
+        wrote = wrote_ok _ _ _ _ _ _ (g.K.Sink.contents c.answer_rest-ended.new.sink) _ done end.1
+            c.answer_rest-ended.result rest.wrote;
         few_lines = search rules;
         end = search rules;
         flushed = search rules;
         still_working = search rules;
         passed_on = search rules;
-        fault = told_so c.answer_rest.result _ _ (λ f k. rest_ended _ _ _ _ _ f done end.1 k) rest.fault;
+        fault = told_so c.answer_rest-ended.result _ _ (λ f k. rest_ended _ _ _ _ _ f done end.1 k) rest.fault;
         prompt = turned.prompt _ _ _ inv.stands inv.prompt;
         window = turned.window _ _ _ inv.stands inv.window;
         few = search rules;
