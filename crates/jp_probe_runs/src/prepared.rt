@@ -5,7 +5,7 @@ use crate::runs::text_of_end;
 use crate::settings::{FaultAnswer, cut_of, settings_of};
 use jp_answer::{Crew, OpenGate};
 use jp_probe_parts::{Row, text_in};
-use jp_run::{FromReader, FromWriter, Prepared, Settings};
+use jp_run::{Buffers, FromReader, FromWriter, Prepared, Settings};
 use serde::Serialize;
 use serde_json::Value;
 use std::alloc::{AllocError, Global};
@@ -51,8 +51,10 @@ fn runs_of_prepared<R: Threads + Sync>(
     inputs: &[Value],
 ) -> anyhow::Result<Vec<(String, String)>> {
     let mut runs = Vec::new(crew.alloc);
+    let mut buffers = Buffers::new(crew.alloc);
     for input in inputs {
-        runs.push(run_of_prepared(crew, prepared, settings, text_in(input)?)?)?;
+        let input = text_in(input)?;
+        runs.push(run_of_prepared(crew, prepared, settings, &mut buffers, input)?)?;
     }
     Ok(runs)
 }
@@ -62,12 +64,13 @@ fn run_of_prepared<R: Threads + Sync>(
     crew: &Crew<R, OpenGate>,
     prepared: &Prepared,
     settings: &Settings<'_>,
+    buffers: &mut Buffers,
     input: &str,
 ) -> Result<(String, String), AllocError> {
     let mut source = FromReader::new(input.as_bytes());
     let mut kept = Vec::new(crew.alloc);
     let mut sink = FromWriter::new(&mut kept);
-    let end = prepared.run(crew, settings, &mut source, &mut sink);
+    let end = prepared.run(crew, settings, buffers, &mut source, &mut sink);
     let output = str::from_utf8(&kept).unwrap_or("no UTF-8");
     Ok((
         text_of_end(crew.alloc, &end)?,

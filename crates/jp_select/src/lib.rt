@@ -16,8 +16,8 @@ pub use jp_output::{write_fault, write_line, write_path};
 pub use jp_path::{path_plan, query_of};
 pub use jp_regexp::{Pattern, Terms};
 pub use jp_run::{
-    Answer, Broken, Cutting, FromReader, FromWriter, Output, Prepared, RunFault, Settings, Sink,
-    Source, Supply, Totals, Whole, answer, answer_all, run,
+    Answer, Broken, Buffers, Cutting, FromReader, FromWriter, Output, Prepared, RunFault, Settings,
+    Sink, Source, Supply, Totals, Whole, answer, answer_all, run,
 };
 pub use jp_syntax::read_query;
 pub use jp_tokens::bracket_depth;
