@@ -1,18 +1,23 @@
 //! What runs use one after another.
 
-ghost use Rattle.std.specs.Prelude.{◌≡◌, IfOk, vec_len};
+ghost use Rattle.std.specs.Prelude.{◌≡◌, [], IfOk, vec_len};
 
+use crate::input::InputBuffer;
 use crate::limits::READ_SIZE;
+use jp_buffer::WaitingLines;
 use std::alloc::{AllocError, Global};
 use std::mem;
 
-/// The memory that a run reads into, kept for the next one: so it is made once for several inputs.
+/// The memory that a run reads into and keeps waiting lines in, kept for the next one: so it is made once for
+/// several inputs.
 ///
-/// A source finds in it what earlier reads have left there, also those of another run.
+/// A source finds in what it is given what earlier reads have left there, also those of another run.
 #[derive(Drop)]
 pub struct Buffers {
     /// What a source was read into: nothing before the first run, and where it was not given back.
     scratch: Vec<u8>,
+    /// Where lines have waited.
+    waiting: WaitingLines,
 }
 
 impl Buffers {
@@ -20,6 +25,7 @@ impl Buffers {
     pub fn new(alloc: Global) -> Buffers {
         Buffers {
             scratch: Vec::new(alloc),
+            waiting: WaitingLines::new(alloc),
         }
     }
 
@@ -35,10 +41,22 @@ impl Buffers {
         Ok(scratch)
     }
 
-    /// Keeps what a source was read into, for the next run.
-    pub(crate) fn give(&mut self, scratch: Vec<u8>)
-        ensures { self.new.scratch ≡ scratch }
+    /// Hands out where lines wait, of which there are none, and keeps nothing. It takes no memory.
+    pub(crate) fn take_waiting(&mut self, alloc: Global) -> WaitingLines
+        ensures { result ≡ [] }
+    {
+        let mut waiting = mem::replace(&mut self.waiting, WaitingLines::new(alloc));
+        // A run that ends before its input leaves lines there.
+        waiting.clear();
+        waiting
+    }
+
+    /// Keeps what a source was read into, and where the lines of the buffer wait, for the next run.
+    pub(crate) fn give(&mut self, scratch: Vec<u8>, buffer: &mut InputBuffer)
+        ensures scratch { self.new.scratch ≡ scratch }
+        ensures waiting { self.new.waiting ≡ buffer.old.lines }
     {
         self.scratch = scratch;
+        buffer.exchange(&mut self.waiting);
     }
 }

@@ -44,8 +44,8 @@ pub(crate) struct Passed {
 }
 
 impl Stream {
-    /// No lines, cut so, behind so many, and so many calls of `read` left. What it reads into is taken from
-    /// the buffers.
+    /// No lines, cut so, behind so many, and so many calls of `read` left. What it reads into, and where its
+    /// lines wait, is taken from the buffers.
     pub(crate) fn new(
         alloc: Global,
         buffers: &mut Buffers,
@@ -62,10 +62,12 @@ impl Stream {
         // A source may write anything into what it is given, also where it fails: so that is no line's
         // memory.
         let scratch = buffers.take(alloc)?;
+        let mut buffer = InputBuffer::new(alloc, cutting, before);
+        buffer.exchange(&mut buffers.take_waiting(alloc));
         Ok(Stream {
             scratch,
             left,
-            buffer: InputBuffer::new(alloc, cutting, before),
+            buffer,
             come: 0,
             answered: Answered {
                 lines: 0,
@@ -75,10 +77,16 @@ impl Stream {
         })
     }
 
-    /// Gives what was read into back to the buffers.
+    /// Gives what was read into, and where lines have waited, back to the buffers.
     pub(crate) fn end(self, buffers: &mut Buffers)
-        ensures { buffers.new.scratch ≡ self.scratch }
+        ensures scratch { buffers.new.scratch ≡ self.scratch }
+        ensures waiting { buffers.new.waiting ≡ self.buffer.lines }
     {
-        buffers.give(self.scratch);
+        let Stream {
+            scratch,
+            mut buffer,
+            ..
+        } = self;
+        buffers.give(scratch, &mut buffer);
     }
 }
