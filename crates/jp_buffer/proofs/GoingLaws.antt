@@ -1,11 +1,13 @@
 -- Lines that are added one after another.
-use Rattle.std.proofs.Common.{◌≡◌, ℕ, ◌+◌, ◌≤◌, false, List, [], ◌∷◌, ◌++◌, sym, ◌∙◌, ap, length, arith}
-use Rattle.std.proofs.Common.{length-append, append_assoc, append-nil, Result, Ok, Err, OnErr}
+use Rattle.std.proofs.Common.{◌≡◌, ℕ, ◌+◌, ◌≤◌, ◌==◌, true, false, List, [], ◌∷◌, ◌++◌, sym, ◌∙◌, ap, length, arith}
+use Rattle.std.proofs.Common.{length-append, append_assoc, append-nil, refl, subst, Result, Ok, Err, OnErr}
+use Rattle.std.proofs.lemmas.Bool.{eqb-true}
+use Rattle.std.proofs.lemmas.List.{nil_from_length}
 use Rattle.jp_doc.specs.Feeding.{Cut, cut, has_line_feed, numbered, Progress, fed, fed_lines}
 use Rattle.jp_doc.specs.Lines.{Line}
 use Rattle.jp_doc.proofs.CutLaws.{cut_open, cut_first, numbered_first}
 use Rattle.jp_doc.proofs.FeedLaws.{open_piece, fed_ended}
-use Rattle.jp_buffer.specs.Buffered.{Buffered}
+use Rattle.jp_buffer.specs.Buffered.{Buffered, nothing_fed_behind}
 use Rattle.jp_buffer.specs.inner.Waiting.{Begins}
 
 -- the lines that were added, and those that the rest adds, are the lines of the bytes
@@ -101,3 +103,29 @@ more_behind (Err d) b p lines middle out first e m g = (
   g.1 ∙ ap (λ l. l ++ g.0) m ∙ append_assoc lines first g.0
       ∙ ap (λ (b : Buffered). b.lines ++ (first ++ g.0)) e,
 )
+
+-- a piece that ends where the line that is open does
+pub line_ended : (b : Buffered) (n : ℕ) (open_line line after piece : List ℕ) (lines out : List Line)
+    → record { progress = record { count = n; open_line = open_line }; lines = lines } ≡ b
+    → has_line_feed open_line ≡ false → piece ≡ line ++ 10 ∷ after → has_line_feed line ≡ false
+    → after ≡ []
+    → out ≡ b.lines ++ numbered (b.progress.count + 1) ((b.progress.open_line ++ line) ∷ [])
+    → (out ≡ b.lines ++ fed_lines b.progress piece)
+    × (fed b.progress piece ≡ nothing_fed_behind (b.progress.count + 1))
+line_ended b n open_line line after piece lines out e h is k none o =
+    let P : Buffered → Type 0 = λ b.
+    out ≡ b.lines ++ numbered (b.progress.count + 1) ((b.progress.open_line ++ line) ∷ [])
+    → (out ≡ b.lines ++ fed_lines b.progress piece)
+    × (fed b.progress piece ≡ nothing_fed_behind (b.progress.count + 1)) in
+    let there : Buffered = record { progress = record { count = n; open_line = open_line }; lines = lines } in
+    let base : P there = λ o.
+    let parts = ended_fed there n open_line open_line line [] piece lines out out refl h
+    (is ∙ ap (λ l. line ++ 10 ∷ l) none) k refl o (sym (append-nil out)) in (
+      parts.0,
+      parts.1 ∙ ap nothing_fed_behind {x = n + 1 + 0} {y = n + 1} (omega arith),
+    ) in
+    subst P e base o
+
+-- bytes of which there are none
+pub none_left : (bytes : List ℕ) → true ≡ (length bytes == 0) → bytes ≡ []
+none_left bytes e = nil_from_length bytes (eqb-true (length bytes) 0 (sym e))

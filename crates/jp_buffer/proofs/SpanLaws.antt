@@ -101,3 +101,17 @@ total_in bytes (s ∷ ss) e = omega (
   length-take-le s.len bytes (omega (arith, e)),
   total_in (drop s.len bytes) ss (omega (arith, e, length-drop s.len bytes)),
 )
+
+-- where there is no line there is no span
+pub no_spans : (bytes : List ℕ) (spans : List Span) → lines_in bytes spans ≡ [] → spans ≡ []
+no_spans bytes [] e = refl
+no_spans bytes (s ∷ ss) e = absurd cc
+
+-- a line alone
+pub only_line : (out line : List ℕ) (spans more : List Span) (n : ℕ) (count : ℕ) → spans ≡ []
+    → out ≡ line → count ≡ length line → more ≡ spans ++ record { number = n; len = count } ∷ []
+    → (length out ≡ bytes_of more) × (lines_in out more ≡ (n, line) ∷ [])
+only_line out line spans more n count none e l f =
+    added_line [] out line [] more n refl e
+    (f ∙ ap (λ ss. ss ++ record { number = n; len = count } ∷ []) none
+    ∙ ap (λ k. record { number = n; len = k } ∷ []) l)

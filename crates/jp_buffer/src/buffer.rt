@@ -1,8 +1,10 @@
 //! The lines of a stream that wait for their answer, and the line that is not ended yet.
 
-ghost use Rattle.std.specs.Prelude.{◌≡◌, ◌≤◌, ◌++◌, map, take, drop, length, IfOk, OnOk, OnErr};
-ghost use Rattle.jp_doc.specs.Feeding.{fed, fed_lines, finished, finished_lines, max_lines};
+ghost use Rattle.std.specs.Prelude.{◌≡◌, ◌+◌, ◌≤◌, [], ◌∷◌, ◌++◌, map, take, drop, length};
+ghost use Rattle.std.specs.Prelude.{IfOk, OnOk, OnErr};
+ghost use Rattle.jp_doc.specs.Feeding.{fed, fed_lines, finished, finished_lines, numbered, max_lines};
 ghost use Rattle.jp_buffer.specs.Buffered.{line_at, nothing_buffered, nothing_buffered_behind, total_bytes};
+ghost use Rattle.jp_buffer.specs.Buffered.{nothing_fed_behind};
 ghost use Rattle.jp_buffer.specs.inner.Waiting.{Begins};
 
 use crate::cutting::push_lines;
@@ -127,13 +129,7 @@ impl LineBuffer {
         if self.open_line.is_empty() {
             return Ok(());
         }
-        let number = self.count + 1;
-        self.waiting.push(number, &self.open_line, &[])?;
-        self.open_line.clear();
-        // So that one long line does not hold its memory for the rest of the stream.
-        self.open_line.shrink_to(LONG_LINE);
-        self.count = number;
-        Ok(())
+        self.end_line(&[])
     }
 
     /// The lines that wait, in order. `AllocError` if the list was refused its memory.
@@ -165,6 +161,10 @@ impl LineBuffer {
             self.open_line.extend_from_slice(piece)?;
             return Ok(());
         };
+        if after.is_empty() {
+            self.end_line(line)?;
+            return Ok(());
+        }
         let number = self.count + 1;
         self.waiting.push(number, &self.open_line, line)?;
         let (count, rest) = push_lines(number, after, &mut self.waiting)?;
@@ -172,6 +172,26 @@ impl LineBuffer {
         // that wait.
         put_instead(&mut self.open_line, rest)?;
         self.count = count;
+        Ok(())
+    }
+
+    /// Ends the line that is open by these bytes, behind which nothing has come, and adds it unless it is
+    /// blank.
+    ///
+    /// `AllocError` if a growth was refused: then nothing has changed.
+    fn end_line(&mut self, back: &[u8]) -> Result<(), AllocError>
+        requires { self.old.progress.count ≤ max_lines }
+        ensures lines { OnOk result (self.new.lines ≡ self.old.lines ++ numbered
+            (self.old.progress.count + 1) ((self.old.progress.open_line ++ back.now) ∷ [])) }
+        ensures progress { OnOk result (self.new.progress ≡ nothing_fed_behind (self.old.progress.count + 1)) }
+        ensures same { OnErr result (self.new ≡ self.old) }
+    {
+        let number = self.count + 1;
+        self.waiting.push_taking(number, &mut self.open_line, back)?;
+        self.open_line.clear();
+        // So that one long line does not hold its memory for the rest of the stream.
+        self.open_line.shrink_to(LONG_LINE);
+        self.count = number;
         Ok(())
     }
 }

@@ -10,6 +10,7 @@ use crate::line_ref::LineRef;
 use jp_doc::{LONG_LINE, is_blank_line};
 use std::alloc::{AllocError, Global};
 use std::marker::Model;
+use std::mem;
 
 /// A line of the buffer, which begins where the one before it ends.
 #[derive(Clone, Copy)]
@@ -80,6 +81,27 @@ impl WaitingLines {
         self.append(number, front, back)
     }
 
+    /// Adds a line that is given in two parts, as `push` does. Where no line waits, and the first part is long,
+    /// its memory becomes that of the lines: so it is not copied, and others stand in its place.
+    ///
+    /// `AllocError` if a growth was refused: then nothing has changed.
+    pub fn push_taking(
+        &mut self,
+        number: u64,
+        front: &mut Vec<u8>,
+        back: &[u8],
+    ) -> Result<(), AllocError>
+        ensures lines { OnOk result
+            (self.new ≡ self.old ++ numbered number ((front.old.items ++ back.now) ∷ [])) }
+        ensures same { OnErr result (self.new ≡ self.old) }
+        ensures same_front { OnErr result (front.new.items ≡ front.old.items) }
+    {
+        if !self.spans.is_empty() || front.len() < LONG_LINE || is_blank_line(front) {
+            return self.push(number, front, back);
+        }
+        self.take(number, front, back)
+    }
+
     /// Adds lines as they are, blank ones too.
     ///
     /// `AllocError` if a growth was refused: then some of them may have been added.
@@ -103,6 +125,28 @@ impl WaitingLines {
             Err(error) => {
                 self.bytes.truncate(before);
                 Err(error)
+            }
+        }
+    }
+
+    /// Has one line, given in two parts, whose first one's memory it takes, where none waits.
+    fn take(&mut self, number: u64, front: &mut Vec<u8>, back: &[u8]) -> Result<(), AllocError>
+        requires none { self.old ≡ [] }
+        ensures lines { OnOk result (self.new ≡ (number, front.old.items ++ back.now) ∷ []) }
+        ensures same { OnErr result (self.new ≡ self.old) }
+        ensures same_front { OnErr result (front.new.items ≡ front.old.items) }
+    {
+        let before = front.len();
+        front.extend_from_slice(back)?;
+        let len = front.len();
+        match self.spans.push(Span { number, len }) {
+            Ok(()) => {
+                mem::swap(&mut self.bytes, front);
+                Ok(())
+            }
+            Err(_) => {
+                front.truncate(before);
+                Err(AllocError)
             }
         }
     }

@@ -7,7 +7,7 @@ use Rattle.std.specs.List.{concat}
 use Rattle.jp_doc.specs.Feeding.{Progress, Cut, last_line, numbered, nothing_fed}
 use Rattle.jp_doc.specs.Lines.{Line}
 use Rattle.jp_doc.proofs.CutLaws.{numbered_first, numbered_both}
-use Rattle.jp_buffer.specs.Buffered.{Buffered}
+use Rattle.jp_buffer.specs.Buffered.{Buffered, nothing_fed_behind}
 use Rattle.jp_documents.specs.Documents.{CutAt, cut, cut_between, cut_at, behind, all_documents, documents}
 use Rattle.jp_documents.specs.Feeding.{fed, fed_documents, documents_of_pieces, after_pieces}
 use Rattle.jp_documents.specs.inner.Finding.{depth_of, Begins}
@@ -234,3 +234,24 @@ behind_nothing_open a b e =
     documents_both a b ∙ ap (λ o. (cut a).ended ++ all_documents (o ++ b)) e
     ∙ ap (λ l. l ++ all_documents b) (sym (append-nil (cut a).ended)
     ∙ sym (ap (λ o. (cut a).ended ++ last_line o) e))
+
+-- a piece that ends where the document that is open does, but for what stands between documents
+pub document_ended : (b : Buffered) (n : ℕ) (o document after piece : List ℕ) (ds out : List Line) (p : Place)
+    → record { progress = record { count = n; open_line = o }; lines = ds } ≡ b
+    → cut_between o ≡ record { ended = []; open_document = o; place = p }
+    → cut_at p piece ≡ behind document (cut_between after)
+    → cut_between after ≡ record { ended = []; open_document = []; place = Between }
+    → out ≡ b.lines ++ numbered (b.progress.count + 1) ((b.progress.open_line ++ document) ∷ [])
+    → (out ≡ b.lines ++ fed_documents b.progress piece)
+    × (nothing_fed_behind (b.progress.count + 1) ≡ fed b.progress piece)
+document_ended b n o document after piece ds out p e f g none m =
+    let P : Buffered → Type 0 = λ b.
+    out ≡ b.lines ++ numbered (b.progress.count + 1) ((b.progress.open_line ++ document) ∷ [])
+    → (out ≡ b.lines ++ fed_documents b.progress piece)
+    × (nothing_fed_behind (b.progress.count + 1) ≡ fed b.progress piece) in
+    let ends : P (parts n o ds) = λ m.
+    ended_fed (parts n o ds) n (n + 1) o o document after piece [] ds out out p refl f g refl m
+    (sym (append-nil out) ∙ ap (λ (c : CutAt). out ++ numbered (n + 1 + 1) c.ended) (sym none))
+    (omega (arith, ap (λ (c : CutAt). length c.ended) none))
+    (ap (λ (c : CutAt). c.open_document) (sym none)) in
+    subst P e ends m

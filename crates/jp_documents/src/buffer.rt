@@ -1,8 +1,12 @@
 //! The documents of a stream that wait for their answer, and the document that is open.
 
-ghost use Rattle.std.specs.Prelude.{◌≡◌, ◌≤◌, ◌++◌, map, take, drop, length, IfOk, OnOk, OnErr};
-ghost use Rattle.jp_doc.specs.Feeding.{finished, finished_lines, max_lines};
+ghost use Rattle.std.specs.Prelude.{◌≡◌, ◌+◌, ◌<◌, ◌≤◌, ◌^◌, [], ◌∷◌, ◌++◌, map, take, drop, length};
+ghost use Rattle.std.specs.Prelude.{IfOk, OnOk, OnErr, IsTrue};
+ghost use Rattle.jp_doc.specs.Feeding.{finished, finished_lines, numbered, max_lines};
 ghost use Rattle.jp_buffer.specs.Buffered.{line_at, nothing_buffered, nothing_buffered_behind, total_bytes};
+ghost use Rattle.jp_buffer.specs.Buffered.{nothing_fed_behind};
+ghost use Rattle.jp_documents.specs.Documents.{cut_between};
+ghost use Rattle.jp_documents.specs.declared.place.Place.TheVariants.{Between};
 ghost use Rattle.jp_documents.specs.Feeding.{fed, fed_documents};
 ghost use Rattle.jp_documents.specs.inner.Finding.{Begins};
 
@@ -133,14 +137,7 @@ impl DocumentBuffer {
         if self.open_document.is_empty() {
             return Ok(());
         }
-        let number = self.count + 1;
-        self.waiting.push(number, &self.open_document, &[])?;
-        self.open_document.clear();
-        // So that one long document does not hold its memory for the rest of the stream.
-        self.open_document.shrink_to(LONG_LINE);
-        self.place = Place::Between;
-        self.count = number;
-        Ok(())
+        self.end_document(&[])
     }
 
     /// The documents that wait, in order. `AllocError` if the list was refused its memory.
@@ -174,6 +171,10 @@ impl DocumentBuffer {
                 self.place = place;
             }
             First::Ended(document, after) => {
+                if self.open_document.len() >= LONG_LINE && has_nothing(after) {
+                    self.end_document(document)?;
+                    return Ok(());
+                }
                 let number = self.count + 1;
                 self.waiting.push(number, &self.open_document, document)?;
                 let left = push_documents(number, after, &mut self.waiting)?;
@@ -185,5 +186,39 @@ impl DocumentBuffer {
             }
         }
         Ok(())
+    }
+
+    /// Ends the document that is open by these bytes, behind which no other has begun, and adds it.
+    ///
+    /// `AllocError` if a growth was refused: then nothing has changed.
+    fn end_document(&mut self, back: &[u8]) -> Result<(), AllocError>
+        requires { self.old.progress.count ≤ max_lines }
+        ensures documents { OnOk result (self.new.lines ≡ self.old.lines ++ numbered
+            (self.old.progress.count + 1) ((self.old.progress.open_line ++ back.now) ∷ [])) }
+        ensures progress { OnOk result (self.new.progress ≡ nothing_fed_behind (self.old.progress.count + 1)) }
+        ensures same { OnErr result (self.new ≡ self.old) }
+    {
+        let number = self.count + 1;
+        self.waiting
+            .push_taking(number, &mut self.open_document, back)?;
+        self.open_document.clear();
+        // So that one long document does not hold its memory for the rest of the stream.
+        self.open_document.shrink_to(LONG_LINE);
+        self.place = Place::Between;
+        self.count = number;
+        Ok(())
+    }
+}
+
+/// Whether no document has begun in the bytes, which stand behind one.
+fn has_nothing(bytes: &[u8]) -> bool
+    requires { length bytes.now + 1 < 2 ^ 64 }
+    ensures { IsTrue result → cut_between bytes.now
+        ≡ record { ended = []; open_document = []; place = Between } }
+{
+    match first_document(Place::Between, bytes) {
+        First::Open(open_document, Place::Between) => open_document.is_empty(),
+        First::Open(_, _) => false,
+        First::Ended(_, _) => false,
     }
 }

@@ -1,7 +1,7 @@
 use Rattle.std.proofs.Common.{◌+◌, ◌∙◌, ap, sym, length}
 use Rattle.jp_doc.specs.Feeding.{cut}
 use Rattle.jp_doc.proofs.CutLaws.{feedless_both, open_feedless}
-use Rattle.jp_buffer.proofs.GoingLaws.{open_fed, ended_fed, more_behind}
+use Rattle.jp_buffer.proofs.GoingLaws.{open_fed, ended_fed, more_behind, line_ended, none_left}
 use Rattle.jp_buffer.proofs.buffer.LineBuffer.feed_piece.Goals as goal
 
 pub invariant_of-self-in_default : goal.invariant_of-self-in_default
@@ -51,3 +51,18 @@ pub returns-in_err-put_instead-clause-more_lines : goal.returns-in_err-put_inste
 returns-in_err-put_instead-clause-more_lines c =
     more_behind c.from_residual-in_err-put_instead.result c.args.self.now _ c.self.inside.waiting
     c.push.new.self _ _ c.self.view_is c.in_ok-push.ensures.lines (_, c.in_ok-count.ensures.lines)
+
+pub returns-then-is_empty-clause-lines : goal.returns-then-is_empty-clause-lines
+returns-then-is_empty-clause-lines c =
+    (line_ended c.args.self.now c.self.inside.count c.self.inside.open_line.items c.in-Some.line.now
+    c.in-Some.after.now c.args.piece.now c.self.inside.waiting _ c.self.view_is c.self.invariant
+    c.in-Some.ensures.some.0 c.in-Some.ensures.some.1
+    (none_left c.in-Some.after.now c.if-is_empty.ensures) c.in_ok-end_line.ensures.lines).0
+
+pub returns-then-is_empty-clause-progress : goal.returns-then-is_empty-clause-progress
+returns-then-is_empty-clause-progress c =
+    c.in_ok-end_line.ensures.progress
+    ∙ sym (line_ended c.args.self.now c.self.inside.count c.self.inside.open_line.items c.in-Some.line.now
+    c.in-Some.after.now c.args.piece.now c.self.inside.waiting _ c.self.view_is c.self.invariant
+    c.in-Some.ensures.some.0 c.in-Some.ensures.some.1
+    (none_left c.in-Some.after.now c.if-is_empty.ensures) c.in_ok-end_line.ensures.lines).1

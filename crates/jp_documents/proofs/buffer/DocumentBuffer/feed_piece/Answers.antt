@@ -1,5 +1,6 @@
-use Rattle.std.proofs.Common.{◌∙◌, arith}
+use Rattle.std.proofs.Common.{◌∙◌, arith, refl}
 use Rattle.jp_documents.proofs.FeedLaws.{deep_open, piece_open, open_fed, ended_fed, rest_open, more_behind}
+use Rattle.jp_documents.proofs.FeedLaws.{document_ended}
 use Rattle.jp_documents.proofs.buffer.DocumentBuffer.feed_piece.Goals as goal
 
 pub first_document-requires : goal.first_document-requires
@@ -62,3 +63,18 @@ returns-in_ok-put_instead-in-Ended-clause-progress c =
     c.in_ok-push-in-Ended.ensures.lines c.in_ok-left-in-Ended.ensures.documents
     c.in_ok-left-in-Ended.ensures.count
     (c.in_ok-put_instead-in-Ended.ensures.ok ∙ c.in_ok-left-in-Ended.ensures.rest)).1
+
+pub returns-then-has_nothing-clause-documents : goal.returns-then-has_nothing-clause-documents
+returns-then-has_nothing-clause-documents c =
+    (document_ended c.args.self.now c.self.inside.count c.self.inside.open_document.items
+    c.in-Ended.document.now c.in-Ended.after.now c.args.piece.now c.self.inside.waiting _ c.self.inside.place
+    c.self.view_is c.self.invariant c.in-Ended.ensures.0 (c.if-has_nothing.ensures refl)
+    c.in_ok-end_document-in-Ended.ensures.documents).0
+
+pub returns-then-has_nothing-clause-progress : goal.returns-then-has_nothing-clause-progress
+returns-then-has_nothing-clause-progress c =
+    c.in_ok-end_document-in-Ended.ensures.progress
+    ∙ (document_ended c.args.self.now c.self.inside.count c.self.inside.open_document.items
+    c.in-Ended.document.now c.in-Ended.after.now c.args.piece.now c.self.inside.waiting _ c.self.inside.place
+    c.self.view_is c.self.invariant c.in-Ended.ensures.0 (c.if-has_nothing.ensures refl)
+    c.in_ok-end_document-in-Ended.ensures.documents).1
