@@ -331,7 +331,7 @@ unquoted_byte_field : (x : ℕ) → IsField (unquoted_byte x)
 unquoted_byte_field x =
     either IsField (x == 34) (34 ∷ []) (escape_byte x) (λ _. written_out (34 ∷ []) refl) (λ _. escape_field x)
 
-unquoted_field : (v : Json) → HasJsonNumbers v → IsField (unquoted_text v)
+pub unquoted_field : (v : Json) → HasJsonNumbers v → IsField (unquoted_text v)
 unquoted_field (text s) h = field_each unquoted_byte unquoted_byte_field (encode_utf8_all s)
 unquoted_field null h = value_field null h
 unquoted_field (truth b) h = value_field (truth b) h

@@ -3,6 +3,7 @@ pub mod Fields
 pub mod FlatTexts
 pub mod FourFields
 pub mod LinesWithNodes
+pub mod NullEnded
 pub mod NumberedLines
 pub mod NumberFields
 pub mod OnLiterals

@@ -16,20 +16,20 @@ use Rattle.jp_output.proofs.FieldBytes.{IsField}
 use Rattle.jp_output.proofs.Fields.{decimal_field, path_field, value_field}
 
 -- none of the bytes is this one
-abbrev Lacks : ℕ → List ℕ → Type 0
+abbrev pub Lacks : ℕ → List ℕ → Type 0
 Lacks b xs = AllByRecursion (λ c. (c == b) ≡ false) xs
 
 lacks_both : (b : ℕ) (xs ys : List ℕ) → Lacks b xs → Lacks b ys → Lacks b (xs ++ ys)
 lacks_both b [] ys h g = g
 lacks_both b (x ∷ xs) ys h g = (h.0, lacks_both b xs ys h.1 g)
 
-field_without : (b : ℕ) (xs : List ℕ) → b < 32 → IsField xs → Lacks b xs
+pub field_without : (b : ℕ) (xs : List ℕ) → b < 32 → IsField xs → Lacks b xs
 field_without b [] low h = tt
 field_without b (x ∷ xs) low h = (ne_eqb x b (λ e. omega (arith, e, h.0)), field_without b xs low h.1)
 
 -- the first line, and the first field
 
-first_line : (front rest : List ℕ) → Lacks 10 front → all_lines (front ++ 10 ∷ rest) ≡ front ∷ all_lines rest
+pub first_line : (front rest : List ℕ) → Lacks 10 front → all_lines (front ++ 10 ∷ rest) ≡ front ∷ all_lines rest
 first_line [] rest h = refl
 first_line (b ∷ bs) rest h =
     let more = all_lines (bs ++ 10 ∷ rest) in

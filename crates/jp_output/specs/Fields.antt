@@ -38,6 +38,15 @@ pub record IsOneLine (line : List ℕ) : Type 0 where
   pub line_feeds : times 10 line ≡ 1
   pub ends : (front : List ℕ) × (line ≡ front ++ 10 ∷ [])
 
+-- what ends with this byte, which stands nowhere else in it
+pub record IsEndedOnceBy (ending : ℕ) (bytes : List ℕ) : Type 0 where
+  pub once : times ending bytes ≡ 1
+  pub ends : (front : List ℕ) × (bytes ≡ front ++ ending ∷ [])
+
+-- each line, with this byte in the place of its line feed
+abbrev pub lines_ended_by : ℕ → List ℕ → List ℕ
+lines_ended_by ending bytes = flat_map (λ line. line ++ ending ∷ []) (all_lines bytes)
+
 abbrev pub is_tab : ℕ → Bool
 is_tab b = b == 9
 

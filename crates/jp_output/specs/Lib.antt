@@ -2,6 +2,7 @@ pub mod Chunks
 pub mod FaultLine
 pub mod Fields
 pub mod InputLine
+pub mod Layouts
 pub mod NumberedLines
 pub mod OutputForm
 pub mod OutputLine

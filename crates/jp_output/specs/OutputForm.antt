@@ -7,7 +7,7 @@ use Rattle.jp_doc.specs.Location.{Node}
 use Rattle.jp_doc.specs.declared.fault.DocFault.{DocFault}
 use Rattle.jp_output.specs.FaultLine.{fault_line}
 use Rattle.jp_output.specs.InputLine.{input_line}
-use Rattle.jp_output.specs.OutputLine.{node_line, line_of, value_text}
+use Rattle.jp_output.specs.OutputLine.{node_line, ended_by, value_text}
 use Rattle.jp_output.specs.RawText.{raw_text}
 use Rattle.jp_output.specs.UnquotedText.{unquoted_text}
 
@@ -30,9 +30,16 @@ node_lines_behind head = record {
   of_fault = λ number fault. head ++ fault_line number fault;
 }
 
--- the text of each value, in some way of writing values, on a line of its own; nothing for a faulty line
+-- the text of each value, in some way of writing values, and this byte; nothing for a faulty line
+abbrev pub values_ended_by : ℕ → (Json → List ℕ) → OutputForm
+values_ended_by ending text = record {
+  of_document = λ _ ns. flat_map (ended_by ending text) ns;
+  of_fault = λ _ _. [];
+}
+
+-- the same with a line feed: each text is on a line of its own
 abbrev pub lines_of : (Json → List ℕ) → OutputForm
-lines_of text = record { of_document = λ _ ns. flat_map (line_of text) ns; of_fault = λ _ _. [] }
+lines_of text = values_ended_by 10 text
 
 -- the form of values: their compact texts
 abbrev pub value_lines : OutputForm

@@ -59,13 +59,17 @@ node_line number n = line_text number n.location n.value
 abbrev pub put_line : List ℕ × ℕ × List ℕ → Node → List ℕ × ℕ × List ℕ
 put_line (head, number, bytes) n = (head, number, bytes ++ (head ++ node_line number n))
 
--- the value's text, in some way of writing values, and a line feed
+-- the value's text, in some way of writing values, and this byte
+abbrev pub ended_by : ℕ → (Json → List ℕ) → Node → List ℕ
+ended_by ending text_of n = text_of n.value ++ ending ∷ []
+
+-- the same with a line feed
 abbrev pub line_of : (Json → List ℕ) → Node → List ℕ
-line_of text_of n = text_of n.value ++ 10 ∷ []
+line_of = ended_by 10
 
 abbrev pub value_line : Node → List ℕ
 value_line = line_of value_text
 
--- What each node gives, one after another: what a further node does to the bytes so far.
-abbrev pub put_bytes : (Node → List ℕ) → List ℕ → Node → List ℕ
-put_bytes of_node bytes n = bytes ++ of_node n
+-- The byte behind each value's text, and the bytes so far: what a further node does to them.
+abbrev pub put_ended : (Json → List ℕ) → ℕ × List ℕ → Node → ℕ × List ℕ
+put_ended text_of (ending, bytes) n = (ending, bytes ++ ended_by ending text_of n)

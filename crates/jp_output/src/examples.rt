@@ -10,12 +10,12 @@ ghost use Rattle.jp_number.specs.Number.{whole};
 ghost use Rattle.jp_output.specs.Chunks.{bytes_in};
 ghost use Rattle.jp_output.specs.FaultLine.{fault_line};
 ghost use Rattle.jp_output.specs.Fields.{times, HasThreeFields, HasFourFields, IsFieldName, IsOneLine};
-ghost use Rattle.jp_output.specs.Fields.{third_field, third_fields};
+ghost use Rattle.jp_output.specs.Fields.{third_field, third_fields, IsEndedOnceBy, lines_ended_by};
 ghost use Rattle.jp_output.specs.NumberedLines.{first_field, first_fields, lines_numbered};
 ghost use Rattle.jp_output.specs.OutputForm.{node_lines, node_lines_behind, value_lines, text_lines};
-ghost use Rattle.jp_output.specs.OutputForm.{raw_lines, input_lines};
+ghost use Rattle.jp_output.specs.OutputForm.{raw_lines, input_lines, values_ended_by};
 ghost use Rattle.jp_output.specs.OutputLine.{value_text, line_text, value_line};
-ghost use Rattle.jp_output.specs.RawText.{raw_text};
+ghost use Rattle.jp_output.specs.RawText.{raw_text, HasNoNull};
 ghost use Rattle.jp_output.specs.UnquotedText.{unquoted_text, text_line};
 
 /// Compact texts: of each kind of value, with no space between its parts, items and members as they stand.
@@ -153,6 +153,27 @@ fn raw_texts()
     ensures line { raw_lines.of_document (3, codes "7") (node [] (text (codes "a")) ∷ node [] (text []) ∷ [])
         ≡ codes "a" ++ 10 ∷ 10 ∷ [] }
     ensures faulty { raw_lines.of_fault 3 Unreadable ≡ [] }
+{}
+
+/// Values, texts and raw texts with U+0000 for the ending: a text that is empty, one that holds a line feed,
+/// and one that holds U+0000, which stands raw as it is; and lines whose line feeds are replaced.
+#[tactic(auto, unfolding(crate::proofs::OnLiterals::lines_on_literals))]
+fn ended_by_null()
+    ensures values { (values_ended_by 0 value_text).of_document (3, codes "7")
+        (node [] (text (97 ∷ 10 ∷ [])) ∷ node [] (text []) ∷ node [] (text (0 ∷ [])) ∷ [])
+        ≡ codes "\"a\\n\"" ++ 0 ∷ codes "\"\"" ++ 0 ∷ codes "\"\\u0000\"" ++ 0 ∷ [] }
+    ensures texts { (values_ended_by 0 unquoted_text).of_document (3, codes "7")
+        (node [] (text (97 ∷ 10 ∷ [])) ∷ node [] (text []) ∷ node [] (text (0 ∷ [])) ∷ [])
+        ≡ codes "a\\n" ++ 0 ∷ 0 ∷ codes "\\u0000" ++ 0 ∷ [] }
+    ensures raw { (values_ended_by 0 raw_text).of_document (3, codes "7")
+        (node [] (text (97 ∷ 10 ∷ [])) ∷ node [] (text []) ∷ node [] (text (0 ∷ [])) ∷ [])
+        ≡ 97 ∷ 10 ∷ 0 ∷ 0 ∷ 0 ∷ 0 ∷ [] }
+    ensures faulty { (values_ended_by 0 raw_text).of_fault 3 Unreadable ≡ [] }
+    ensures replaced { lines_ended_by 0 (97 ∷ 10 ∷ 10 ∷ 98 ∷ 10 ∷ []) ≡ 97 ∷ 0 ∷ 0 ∷ 98 ∷ 0 ∷ [] }
+    ensures once { ¬ IsEndedOnceBy 0 (0 ∷ 97 ∷ 0 ∷ []) }
+    ensures last { ¬ IsEndedOnceBy 0 (0 ∷ 97 ∷ []) }
+    ensures no_null { HasNoNull (text (codes "a")) }
+    ensures null { ¬ HasNoNull (text (97 ∷ 0 ∷ [])) }
 {}
 
 /// The forms of line 3, with two nodes that are the same: the line ends with a carriage return.

@@ -6,8 +6,9 @@ ghost use Rattle.jp_doc.specs.Location.{Node};
 ghost use Rattle.jp_doc.specs.declared.fault.DocFault.TheVariants.{Memory};
 ghost use Rattle.jp_output.specs.Chunks.{bytes_in};
 ghost use Rattle.jp_output.specs.OutputForm.{OutputForm};
+ghost use Rattle.jp_output.specs.declared.layout.Layout.{Layout};
 
-use crate::head::Head;
+use crate::layout::Layout;
 use jp_doc::DocFault;
 use jp_node::Visit;
 use std::alloc::{AllocError, Global};
@@ -16,8 +17,8 @@ use std::alloc::{AllocError, Global};
 ///
 /// A line is begun, then its document's nodes are visited, then it is ended; or its fault is told.
 pub trait Form: Visit {
-    /// What the form says of a line, with these bytes for the head of a line.
-    ghost says: { List ℕ → OutputForm };
+    /// What the form says of a line, in this layout.
+    ghost says: { Layout → OutputForm };
 
     /// What this one says of a line.
     ghost form: { Self → OutputForm };
@@ -31,10 +32,10 @@ pub trait Form: Visit {
     /// The bytes once the line, which is these, has ended.
     ghost ended: { Self → List ℕ → List ℕ };
 
-    /// Nothing is written yet. The form has this head, if its lines have any. It takes no memory.
-    fn new(alloc: Global, head: &Head) -> Self
+    /// Nothing is written yet. The form has what it can have of this layout. It takes no memory.
+    fn new(alloc: Global, layout: &Layout) -> Self
         ensures written { written result ≡ [] }
-        ensures form { form result ≡ says head.now };
+        ensures form { form result ≡ says layout.now };
 
     /// Begins the line with this number.
     fn begin(&mut self, number: u64)

@@ -3,7 +3,7 @@
 ghost use Rattle.std.specs.Prelude.{◌≡◌, false, []};
 
 use crate::form::Form;
-use crate::head::Head;
+use crate::layout::Layout;
 use crate::output_buffer::OutputBuffer;
 use jp_doc::DocFault;
 use jp_node::{Part, PathStack, Visit};
@@ -96,7 +96,7 @@ impl Form for InputLines {
 
     ghost ended = { end_line };
 
-    fn new(alloc: Global, _head: &Head) -> Self {
+    fn new(alloc: Global, _layout: &Layout) -> Self {
         InputLines::empty(alloc)
     }
 

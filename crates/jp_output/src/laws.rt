@@ -13,12 +13,14 @@ ghost use Rattle.jp_doc.specs.declared.fault.DocFault.{DocFault};
 ghost use Rattle.jp_output.specs.FaultLine.{fault_line};
 ghost use Rattle.jp_output.specs.Fields.{times, HasThreeFields, AreLinesOfThree, IsOneLine, third_fields};
 ghost use Rattle.jp_output.specs.Fields.{HasFourFields, AreLinesOfFour, IsFieldName, NodesHaveJsonNumbers};
+ghost use Rattle.jp_output.specs.Fields.{IsEndedOnceBy, lines_ended_by};
 ghost use Rattle.jp_output.specs.NumberedLines.{of_documents, lines_of_documents, AreNumberedAbove};
 ghost use Rattle.jp_output.specs.NumberedLines.{first_fields, lines_numbered};
 ghost use Rattle.jp_output.specs.OutputForm.{node_lines, node_lines_behind, value_lines, text_lines};
-ghost use Rattle.jp_output.specs.OutputForm.{input_lines};
-ghost use Rattle.jp_output.specs.OutputLine.{value_text, node_line, put_line, value_line};
-ghost use Rattle.jp_output.specs.UnquotedText.{text_line};
+ghost use Rattle.jp_output.specs.OutputForm.{input_lines, values_ended_by};
+ghost use Rattle.jp_output.specs.OutputLine.{value_text, node_line, put_line, value_line, ended_by};
+ghost use Rattle.jp_output.specs.RawText.{raw_text, HasNoNull, NodesHaveNoNull};
+ghost use Rattle.jp_output.specs.UnquotedText.{text_line, unquoted_text};
 
 /// The compact text of a value whose numbers are whole is the text that the JSON crate writes of it, and so
 /// of each value of the crate whose numbers are.
@@ -88,6 +90,35 @@ pub fn texts_read_back()
     ensures one_line { (n : Node) → HasJsonNumbers n.value → IsOneLine (text_line n) }
     ensures one_each { (l : Line) (ns : List Node) → NodesHaveJsonNumbers ns
         → times 10 (text_lines.of_document l ns) ≡ length ns }
+{}
+
+/// The forms of values and of texts with U+0000 for the ending are those with a line feed, line for line, but
+/// that the byte 0 stands in the place of each line feed. It ends each text and stands nowhere else in it, so
+/// there are as many as nodes.
+pub fn values_ended_by_null()
+    ensures values { (l : Line) (ns : List Node) → NodesHaveJsonNumbers ns
+        → (values_ended_by 0 value_text).of_document l ns ≡ lines_ended_by 0 (value_lines.of_document l ns) }
+    ensures texts { (l : Line) (ns : List Node) → NodesHaveJsonNumbers ns
+        → (values_ended_by 0 unquoted_text).of_document l ns ≡ lines_ended_by 0
+        (text_lines.of_document l ns) }
+    ensures one_value { (n : Node) → HasJsonNumbers n.value → IsEndedOnceBy 0 (ended_by 0 value_text n) }
+    ensures one_text { (n : Node) → HasJsonNumbers n.value → IsEndedOnceBy 0 (ended_by 0 unquoted_text n) }
+    ensures values_counted { (l : Line) (ns : List Node) → NodesHaveJsonNumbers ns
+        → times 0 ((values_ended_by 0 value_text).of_document l ns) ≡ length ns }
+    ensures texts_counted { (l : Line) (ns : List Node) → NodesHaveJsonNumbers ns
+        → times 0 ((values_ended_by 0 unquoted_text).of_document l ns) ≡ length ns }
+{}
+
+/// In the form of raw texts with U+0000 for the ending a text is written as it is, and one byte 0 behind it,
+/// and nothing else is. Where U+0000 stands in no text that byte stands nowhere else in it, so there are as
+/// many as nodes.
+pub fn raw_ended_by_null()
+    ensures as_they_are { (l : Line) (ns : List Node) → (values_ended_by 0 raw_text).of_document l ns
+        ≡ flat_map (λ n. raw_text n.value ++ 0 ∷ []) ns }
+    ensures one_text { (n : Node) → HasJsonNumbers n.value → HasNoNull n.value
+        → IsEndedOnceBy 0 (ended_by 0 raw_text n) }
+    ensures counted { (l : Line) (ns : List Node) → NodesHaveJsonNumbers ns → NodesHaveNoNull ns
+        → times 0 ((values_ended_by 0 raw_text).of_document l ns) ≡ length ns }
 {}
 
 /// The form of input lines has the line, once, of a document of which a node is selected, and nothing of

@@ -12,6 +12,7 @@ use crate::chunks::join_chunks;
 use crate::fault_line::write_fault_behind;
 use crate::form::Form;
 use crate::head::Head;
+use crate::layout::Layout;
 use crate::line_front::LineFront;
 use crate::output_buffer::OutputBuffer;
 use crate::value_text::append_value;
@@ -165,7 +166,7 @@ impl Form for NodeLines {
     ghost use Rattle.jp_output.specs.OutputForm.{node_lines_behind};
     ghost use Rattle.jp_output.specs.inner.Taken.{head_stays, lines_written};
 
-    ghost says = { node_lines_behind };
+    ghost says = { λ layout. node_lines_behind layout.head };
 
     ghost form = { λ lines. node_lines_behind lines.0 };
 
@@ -175,8 +176,8 @@ impl Form for NodeLines {
 
     ghost ended = { λ lines line. lines.2 };
 
-    fn new(alloc: Global, head: &Head) -> Self {
-        NodeLines::behind(alloc, head)
+    fn new(alloc: Global, layout: &Layout) -> Self {
+        NodeLines::behind(alloc, &layout.head)
     }
 
     fn begin(&mut self, number: u64) {

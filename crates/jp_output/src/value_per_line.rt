@@ -1,10 +1,10 @@
-//! The forms of values: the text of each, on a line of its own.
+//! The forms of values: the text of each, on a line of its own, or with another ending.
 
 ghost use Rattle.std.specs.Prelude.{◌≡◌, ◌∷◌, [], ◌++◌, OnOk};
 ghost use Rattle.jp_node.specs.Part.{part_value};
 
 use crate::form::Form;
-use crate::head::Head;
+use crate::layout::Layout;
 use crate::output_buffer::OutputBuffer;
 use crate::value_form::{Compact, Raw, Unquoted, ValueForm};
 use jp_doc::DocFault;
@@ -22,14 +22,16 @@ pub type TextLines = ValuePerLine<Unquoted>;
 /// The same, but a text stands as it is, line feeds and all: so a text may be no line or several.
 pub type RawLines = ValuePerLine<Raw>;
 
-/// Takes nodes as the texts of their values, each with a line feed, behind those before.
+/// Takes nodes as the texts of their values, each with a line feed or another ending, behind those before.
 ///
-/// Its meaning is the bytes so far. A node takes no allocation but the growth of what is written, since the
-/// scratch buffer that its text is made in is used again, and a list of members for each object. No path's
-/// text is made.
+/// Its meaning is the ending and the bytes so far. A node takes no allocation but the growth of what is
+/// written, since the scratch buffer that its text is made in is used again, and a list of members for each
+/// object. No path's text is made.
 #[derive(Drop)]
 pub struct ValuePerLine<T: ValueForm> {
     scratch: Vec<u8>,
+    /// The byte behind each text.
+    ending: u8,
     lines: OutputBuffer,
     text: PhantomData<T>,
 }
@@ -38,18 +40,19 @@ impl<T: ValueForm> Model for ValuePerLine<T> {
     ghost use Rattle.std.specs.Prelude.{ℕ, List};
     ghost use Rattle.jp_output.specs.inner.Buffered.{buffered};
 
-    ghost Value = { List ℕ };
+    ghost Value = { ℕ × List ℕ };
 
-    ghost view = { λ t. buffered t.lines };
+    ghost view = { λ t. (t.ending, buffered t.lines) };
 }
 
 impl<T: ValueForm> ValuePerLine<T> {
-    /// Nothing is written.
-    fn empty(alloc: Global) -> ValuePerLine<T>
-        ensures { result ≡ [] }
+    /// Nothing is written, and this byte ends each text.
+    fn empty(alloc: Global, ending: u8) -> ValuePerLine<T>
+        ensures { result ≡ (ending, []) }
     {
         ValuePerLine {
             scratch: Vec::new(alloc),
+            ending,
             lines: OutputBuffer::new(alloc),
             text: PhantomData,
         }
@@ -58,15 +61,15 @@ impl<T: ValueForm> ValuePerLine<T> {
 
 impl<T: ValueForm> Visit for ValuePerLine<T> {
     ghost use Rattle.std.specs.Prelude.{ℕ, List, [], refl};
-    ghost use Rattle.jp_output.specs.OutputLine.{put_bytes, line_of};
+    ghost use Rattle.jp_output.specs.OutputLine.{put_ended};
 
-    ghost Kept = { List ℕ };
+    ghost Kept = { ℕ × List ℕ };
 
     ghost kept = { λ lines. lines };
 
-    ghost put = { put_bytes (line_of T.text) };
+    ghost put = { put_ended T.text };
 
-    ghost emptied = { λ _. [] };
+    ghost emptied = { λ lines. (lines.0, []) };
 
     ghost emptied_stays = { λ _ _. refl };
 
@@ -76,7 +79,8 @@ impl<T: ValueForm> Visit for ValuePerLine<T> {
         _path_stack: &mut PathStack<'_>,
         value: Part<'_>,
     ) -> Result<(), AllocError> {
-        append_line::<T>(alloc, value, &mut self.scratch, &mut self.lines.out)
+        let out = &mut self.lines.out;
+        append_ended::<T>(alloc, value, self.ending, &mut self.scratch, out)
     }
 
     fn is_full(&self) -> bool {
@@ -84,7 +88,7 @@ impl<T: ValueForm> Visit for ValuePerLine<T> {
     }
 
     fn fresh(&self, alloc: Global) -> Self {
-        ValuePerLine::empty(alloc)
+        ValuePerLine::empty(alloc, self.ending)
     }
 
     fn append(&mut self, other: Self) -> Result<(), AllocError> {
@@ -93,23 +97,23 @@ impl<T: ValueForm> Visit for ValuePerLine<T> {
 }
 
 impl<T: ValueForm> Form for ValuePerLine<T> {
-    ghost use Rattle.std.specs.Prelude.{◌≡◌, refl};
-    ghost use Rattle.jp_output.specs.OutputForm.{lines_of};
-    ghost use Rattle.jp_output.specs.OutputLine.{line_of};
-    ghost use Rattle.jp_output.specs.inner.Taken.{bytes_written};
+    ghost use Rattle.std.specs.Prelude.{◌≡◌};
+    ghost use Rattle.jp_output.specs.Layouts.{ending_byte};
+    ghost use Rattle.jp_output.specs.OutputForm.{values_ended_by};
+    ghost use Rattle.jp_output.specs.inner.Taken.{ending_stays, values_written};
 
-    ghost says = { λ _. lines_of T.text };
+    ghost says = { λ layout. values_ended_by (ending_byte layout.ending) T.text };
 
-    ghost form = { λ _. lines_of T.text };
+    ghost form = { λ lines. values_ended_by lines.0 T.text };
 
-    ghost written = { λ lines. lines };
+    ghost written = { λ lines. lines.1 };
 
-    ghost HasBegun = { λ lines _ before. lines ≡ before };
+    ghost HasBegun = { λ lines _ before. lines.1 ≡ before };
 
-    ghost ended = { λ lines _. lines };
+    ghost ended = { λ lines _. lines.1 };
 
-    fn new(alloc: Global, _head: &Head) -> Self {
-        ValuePerLine::empty(alloc)
+    fn new(alloc: Global, layout: &Layout) -> Self {
+        ValuePerLine::empty(alloc, layout.ending.byte())
     }
 
     fn begin(&mut self, _number: u64) {}
@@ -131,21 +135,23 @@ impl<T: ValueForm> Form for ValuePerLine<T> {
         self.lines.into_chunks()
     }
 
-    ghost writes = { λ begun visited _ before _ ns. bytes_written (line_of T.text) begun visited before ns };
+    ghost writes = { λ begun visited _ before _ ns. values_written T.text begun visited before ns };
 
-    ghost form_stays = { λ _ _ _ _. refl };
+    ghost form_stays = { ending_stays T.text };
 }
 
-/// Appends the text of a value and a line feed, with a scratch buffer for pieces of it.
-fn append_line<T: ValueForm>(
+/// Appends the text of a value and this byte, with a scratch buffer for pieces of it.
+fn append_ended<T: ValueForm>(
     alloc: Global,
     value: Part<'_>,
+    ending: u8,
     scratch: &mut Vec<u8>,
     out: &mut Vec<u8>,
 ) -> Result<(), AllocError>
-    ensures { OnOk result (out.new.items ≡ out.old.items ++ (T.text (part_value value.entry) ++ 10 ∷ [])) }
+    ensures { OnOk result (out.new.items
+        ≡ out.old.items ++ (T.text (part_value value.entry) ++ ending ∷ [])) }
 {
     T::append(alloc, value, scratch, out)?;
-    out.push(b'\n')?;
+    out.push(ending)?;
     Ok(())
 }

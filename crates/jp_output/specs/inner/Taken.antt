@@ -2,10 +2,11 @@
 use Rattle.std.proofs.Common.{◌≡◌, ℕ, Bool, true, false, ◌||◌, List, [], ◌∷◌, ◌++◌, refl, ap, sym, ◌∙◌}
 use Rattle.std.proofs.Common.{append_assoc, append-nil, ap₂}
 use Rattle.std.specs.List.{fold, flat_map}
+use Rattle.jp_doc.specs.Json.{Json}
 use Rattle.jp_doc.specs.Location.{Node}
 use Rattle.jp_output.specs.InputLine.{input_line, put_selected, end_line}
-use Rattle.jp_output.specs.OutputForm.{node_lines_behind}
-use Rattle.jp_output.specs.OutputLine.{node_line, put_line, put_bytes}
+use Rattle.jp_output.specs.OutputForm.{node_lines_behind, values_ended_by}
+use Rattle.jp_output.specs.OutputLine.{node_line, put_line, ended_by, put_ended}
 
 -- the lines of nodes, each behind a head
 abbrev pub lines_behind : List ℕ → ℕ → List Node → List ℕ
@@ -41,23 +42,37 @@ lines_written (head, begun, bytes) visited number before line ns b v =
     ap (λ (l : List ℕ × ℕ × List ℕ). l.2) (v ∙ lines_fold head begun bytes ns)
     ∙ ap₂ (λ (k : ℕ) (bs : List ℕ). bs ++ lines_behind head k ns) b.0 b.1
 
--- where each node gives bytes of its own
-module _ (of_node : Node → List ℕ) where
-  bytes_fold : (bytes : List ℕ) (ns : List Node)
-      → fold (put_bytes of_node) bytes ns ≡ bytes ++ flat_map of_node ns
-  bytes_fold bytes [] = sym (append-nil bytes)
-  bytes_fold bytes (n ∷ ns) = bytes_fold (bytes ++ of_node n) ns
-      ∙ append_assoc bytes (of_node n) (flat_map of_node ns)
+-- where each node gives the text of its value, and a byte
+module _ (text : Json → List ℕ) where
+  values_fold : (ending : ℕ) (bytes : List ℕ) (ns : List Node)
+      → fold (put_ended text) (ending, bytes) ns ≡ (ending, bytes ++ flat_map (ended_by ending text) ns)
+  values_fold ending bytes [] = ap (λ bs. (ending, bs)) (sym (append-nil bytes))
+  values_fold ending bytes (n ∷ ns) =
+      values_fold ending (bytes ++ ended_by ending text n) ns
+      ∙ ap (λ bs. (ending, bs))
+      (append_assoc bytes (ended_by ending text n) (flat_map (ended_by ending text) ns))
 
-  pub bytes_append : (bytes more : List ℕ) (ns : List Node) → more ≡ fold (put_bytes of_node) [] ns
-      → bytes ++ more ≡ fold (put_bytes of_node) bytes ns
-  bytes_append bytes more ns e =
-      ap (λ (k : List ℕ). bytes ++ k) (e ∙ bytes_fold [] ns) ∙ sym (bytes_fold bytes ns)
+  -- the bytes of one visitor behind those of another
+  pub values_append : (ending : ℕ) (bytes : List ℕ) (more : ℕ × List ℕ) (ns : List Node)
+      → more ≡ fold (put_ended text) (ending, []) ns
+      → (ending, bytes ++ more.1) ≡ fold (put_ended text) (ending, bytes) ns
+  values_append ending bytes more ns e =
+      ap (λ (k : ℕ × List ℕ). (ending, bytes ++ k.1)) (e ∙ values_fold ending [] ns)
+      ∙ sym (values_fold ending bytes ns)
 
-  pub bytes_written : (begun visited before : List ℕ) (ns : List Node) → begun ≡ before
-      → visited ≡ fold (put_bytes of_node) begun ns → visited ≡ before ++ flat_map of_node ns
-  bytes_written begun visited before ns b v =
-      v ∙ ap (λ (k : List ℕ). fold (put_bytes of_node) k ns) b ∙ bytes_fold before ns
+  -- the byte stays, and so does what the form says
+  pub ending_stays : (begun visited : ℕ × List ℕ) (ns : List Node)
+      → visited ≡ fold (put_ended text) begun ns
+      → values_ended_by visited.0 text ≡ values_ended_by begun.0 text
+  ending_stays (ending, bytes) visited ns v =
+      ap (λ (k : ℕ × List ℕ). values_ended_by k.0 text) (v ∙ values_fold ending bytes ns)
+
+  pub values_written : (begun visited : ℕ × List ℕ) (before : List ℕ) (ns : List Node) → begun.1 ≡ before
+      → visited ≡ fold (put_ended text) begun ns
+      → visited.1 ≡ before ++ flat_map (ended_by begun.0 text) ns
+  values_written (ending, bytes) visited before ns b v =
+      ap (λ (k : ℕ × List ℕ). k.1) (v ∙ values_fold ending bytes ns)
+      ∙ ap (λ (k : List ℕ). k ++ flat_map (ended_by ending text) ns) b
 
 -- where the first node decides
 selected_stays : (bytes : List ℕ) (ns : List Node) → fold put_selected (true, bytes) ns ≡ (true, bytes)
