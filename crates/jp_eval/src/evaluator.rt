@@ -55,9 +55,9 @@ impl<'p> Evaluator<'p> {
         }
     }
 
-    /// Hands the nodes that the query selects in a document, of which this is the whole value, to the visitor,
-    /// in the order of its nodelist (RFC 9535, 2.1.2), as long as one more would change something: a node that
-    /// is selected more than once comes as often.
+    /// Hands the nodes that the query selects in a document, of which this is the whole value, to the
+    /// visitor, in the order of its nodelist (RFC 9535, 2.1.2), as long as one more would change something:
+    /// a node that is selected more than once comes as often.
     ///
     /// # Errors
     ///

@@ -1,9 +1,11 @@
 //! Comparison (RFC 9535, 2.3.5.2.2) of values of a document.
 
-ghost use Rattle.std.specs.Prelude.{◌≡◌, IfOk};
-ghost use Rattle.jp_doc.specs.Json.{items};
+ghost use Rattle.std.specs.Prelude.{◌≡◌, Some, IfOk};
+ghost use Rattle.std.specs.Str.{chars};
+ghost use Rattle.jp_doc.specs.Json.{items, number, text};
 ghost use Rattle.jp_node.specs.Inside.{item_values, kind_value, members_in};
 ghost use Rattle.jp_node.specs.Members.{members, range_entries};
+ghost use Rattle.jp_number.specs.Number.{whole};
 ghost use Rattle.jp_value.specs.Comparison as spec;
 ghost use Rattle.jp_value.specs.Kinds.{given_value};
 
@@ -178,11 +180,58 @@ fn is_less(left: Option<Kind<'_>>, right: Option<Kind<'_>>) -> bool
     }
 }
 
+/// Whether the comparison of two whole numbers is true.
+#[tactic(auto, using(jp_number::proofs::Order::whole_equal, jp_number::proofs::Order::whole_below))]
+fn compare_whole(operator: Operator, left: i128, right: i128) -> bool
+    ensures { result ≡ spec.compared operator (Some (number (whole left))) (Some (number (whole right))) }
+{
+    match operator {
+        Operator::Eq => left == right,
+        Operator::Ne => left != right,
+        Operator::Lt => left < right,
+        Operator::Le => left < right || left == right,
+        Operator::Gt => right < left,
+        Operator::Ge => right < left || right == left,
+    }
+}
+
+/// Whether the comparison of two texts is true.
+fn compare_texts(operator: Operator, left: &str, right: &str) -> bool
+    ensures { result ≡ spec.compared operator (Some (text (chars left.now))) (Some (text (chars right.now))) }
+{
+    match operator {
+        Operator::Eq => same_text(left, right),
+        Operator::Ne => !same_text(left, right),
+        Operator::Lt => is_text_below(left, right),
+        Operator::Le => is_text_below(left, right) || same_text(left, right),
+        Operator::Gt => is_text_below(right, left),
+        Operator::Ge => is_text_below(right, left) || same_text(right, left),
+    }
+}
+
 /// Whether the comparison of two values, or of nothing, is true (RFC 9535, 2.3.5.2.2).
 ///
 /// It takes memory only where two objects are compared: for their members, side by side. `AllocError` if a
 /// growth was refused.
 pub fn compare_kinds(
+    alloc: Global,
+    operator: Operator,
+    left: Option<Kind<'_>>,
+    right: Option<Kind<'_>>,
+) -> Result<bool, AllocError>
+    ensures { IfOk result (λ b. b ≡ spec.compared operator (given_value left.entry)
+        (given_value right.entry)) }
+{
+    // Most comparisons are of two whole numbers, or of two texts.
+    match (left, right) {
+        (Some(Kind::Whole(x)), Some(Kind::Whole(y))) => Ok(compare_whole(operator, x, y)),
+        (Some(Kind::Text(x)), Some(Kind::Text(y))) => Ok(compare_texts(operator, x, y)),
+        _ => compare_others(alloc, operator, left, right),
+    }
+}
+
+/// The same, of any two.
+fn compare_others(
     alloc: Global,
     operator: Operator,
     left: Option<Kind<'_>>,
