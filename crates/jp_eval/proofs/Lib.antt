@@ -15,5 +15,6 @@ pub mod Uniformity
 pub mod Answered
 pub mod WorkItems
 mod Crossing
+mod Deciding
 pub mod FilterCrosses
 pub mod RootsUniform

@@ -1,7 +1,7 @@
 -- The steps of the walk.
 use Rattle.std.proofs.Common.{◌≡◌, ℕ, ◌+◌, ◌-◌, ◌<◌, ◌≤◌, List, [], ◌∷◌, ◌++◌, length}
 use Rattle.std.proofs.Common.{length-append, get_or, take, drop, Option, Some, None, option_to_list, Bool}
-use Rattle.std.proofs.Common.{true, false, ◌&&◌, ◌||◌, sym, ap, ◌∙◌, arith}
+use Rattle.std.proofs.Common.{true, false, ◌&&◌, ◌||◌, refl, sym, ap, ◌∙◌, arith}
 use Rattle.std.proofs.Math.Seq.{take-append_seam}
 use Rattle.std.proofs.lemmas.List.{at_drop_more, at_drop_all, map-append}
 use Rattle.std.specs.List.{flat_map, list_any, list_all}
@@ -13,13 +13,14 @@ use Rattle.jp_found.specs.Links.{here}
 use Rattle.jp_node.specs.Nodes.{items_at}
 use Rattle.jp_node.specs.Nodes.{children, descendants, node_if_some}
 use Rattle.jp_node.specs.Part.{part_value}
-use Rattle.jp_eval.specs.inner.Walk.{picked, picked_by, reached}
+use Rattle.jp_eval.specs.inner.Walk.{picked, picked_by, reached, is_true, sifted}
 use Rattle.jp_node.specs.declared.part.Part.{Part}
 use Rattle.jp_node.specs.declared.link.Link.{Link}
+use Rattle.jp_compiled.specs.declared.query.CompiledLogical.{CompiledLogical}
 use Rattle.jp_compiled.specs.declared.query.CompiledSegment.{CompiledSegment}
 use Rattle.jp_compiled.specs.declared.query.CompiledSelector.{CompiledSelector}
 use Rattle.jp_eval.specs.inner.Base.{Base}
-use Rattle.jp_eval.proofs.Chains.{reached-append, reached-descend}
+use Rattle.jp_eval.proofs.Chains.{reached-append, reached-descend, reached-none}
 use Rattle.jp_found.proofs.Keeping.{stepped, ended, plus-append}
 
 front_of_one_more : (path : List Link) (l : Link) → take (length (path ++ l ∷ []) - 1) (path ++ l ∷ [])
@@ -113,3 +114,12 @@ module _ {X : Type 0} (p : X → Bool) (xs : List X) (i : ℕ) (x : X) (h : i < 
   pub all_found : p x ≡ false → list_all p (drop i xs) ≡ false
   all_found off = at_drop_more (list_all p) xs i x h ∙ ap (λ b. b && list_all p (drop (i + 1) xs))
       (ap p (sym is) ∙ off)
+
+-- ---- a node of which an expression is true, or not
+
+module _ (base : Base) (l : CompiledLogical) (rest : List CompiledSegment) (n : Node) where
+  pub sifted_in : is_true base l n ≡ true → sifted base l rest n ≡ reached base rest (n ∷ [])
+  sifted_in on = rw on refl
+
+  pub sifted_out : is_true base l n ≡ false → sifted base l rest n ≡ []
+  sifted_out off = rw off (reached-none base rest)

@@ -8,6 +8,7 @@ ghost use Rattle.jp_pattern.specs.Tests.{Tests, AreRight};
 ghost use Rattle.jp_tree.specs.Tree as tree;
 
 use crate::fault::EvalFault;
+use crate::local::{decided, is_local};
 use crate::roots::answer_roots;
 use crate::walk::holds;
 use jp_compiled::{CompiledLogical, CompiledQuery};
@@ -23,6 +24,8 @@ pub struct DocumentFilter<'p> {
     query: &'p CompiledQuery,
     test: &'p CompiledLogical,
     asked: RootUse,
+    /// Whether the value of a document decides the test, for all that is known of the test.
+    is_local: bool,
 }
 
 impl<'p> DocumentFilter<'p> {
@@ -41,6 +44,7 @@ impl<'p> DocumentFilter<'p> {
             query,
             test,
             asked: asked_by(query),
+            is_local: is_local(test),
         })
     }
 
@@ -61,6 +65,11 @@ impl<'p> DocumentFilter<'p> {
             query.roots.as_slice(),
             self.asked,
         )?;
+        if self.is_local {
+            if let Some(truth) = decided(&context, self.test, root)? {
+                return Ok(truth);
+            }
+        }
         let mut path = PathStack::new(self.alloc);
         Ok(holds::<Locations>(&context, self.test, root, &mut path)?)
     }

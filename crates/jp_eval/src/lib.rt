@@ -9,6 +9,7 @@ mod examples;
 mod fault;
 mod fork;
 pub mod laws;
+mod local;
 mod roots;
 mod route;
 mod singular;

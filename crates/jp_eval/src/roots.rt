@@ -8,6 +8,7 @@ ghost use Rattle.jp_found.specs.Aggregates.{tells};
 ghost use Rattle.jp_node.specs.Part.{part_value};
 
 use crate::context::Context;
+use crate::singular::answer_of;
 use crate::walk::{holds, run};
 use jp_compiled::{RootPart, RootQuery, Want};
 use jp_found::{Aggregate, RootAnswer, RootUse, into_aggregate, none_found, of_one};
@@ -70,15 +71,13 @@ fn nodes_told<'v, V: Visit + Drop>(
     ensures { IfOk result (λ a. tells query.now.want (root_nodes (part_value context.now.root)
         (segments_in (roots_of context.now.roots.now) query.now.segments.items)) a ≡ true) }
 {
+    let segments = query.segments.as_slice();
+    if let Some(answer) = answer_of(query.want, segments, context.root) {
+        return Ok(answer);
+    }
     let mut path = PathStack::new(context.alloc);
     let mut found = none_found::<'v, V>(context.alloc, query.want);
-    run(
-        context,
-        query.segments.as_slice(),
-        context.root,
-        &mut path,
-        &mut found,
-    )?;
+    run(context, segments, context.root, &mut path, &mut found)?;
     match into_aggregate(found) {
         Some(answer) => Ok(answer),
         None => unreachable!(),

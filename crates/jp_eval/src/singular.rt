@@ -58,7 +58,10 @@ fn step_by<'v>(segment: &'v CompiledSegment, value: Part<'v>) -> Option<Option<P
 
 /// What segments of one name or index each lead to, one after another, if there is a value; and nothing where
 /// one of them is no such segment.
-fn followed<'v>(segments: &'v [CompiledSegment], value: Part<'v>) -> Option<Option<Part<'v>>>
+pub(crate) fn followed<'v>(
+    segments: &'v [CompiledSegment],
+    value: Part<'v>,
+) -> Option<Option<Part<'v>>>
     ensures { IfSome result (λ found. (base : Base) (at : Location)
         → first_value (reached base segments.now (node at (part_value value.entry) ∷ []))
         ≡ option_map part_value found) }
@@ -82,6 +85,11 @@ fn is_step(segment: &CompiledSegment) -> bool {
         )
 }
 
+/// Whether each segment is of one name or index.
+pub(crate) fn are_steps(segments: &[CompiledSegment]) -> bool {
+    segments.iter().all(is_step)
+}
+
 /// The answer to a filter that wants the first node of such segments; and nothing of others.
 pub(crate) fn answer_of<'v>(
     want: Want,
@@ -95,7 +103,7 @@ pub(crate) fn answer_of<'v>(
         return None;
     };
     // Others are not followed up to where they are others, so that no name is looked for twice.
-    if !segments.iter().all(is_step) {
+    if !are_steps(segments) {
         return None;
     }
     Some(Aggregate::First(followed(segments, value)?))

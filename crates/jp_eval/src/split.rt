@@ -15,7 +15,8 @@ ghost use Rattle.jp_node.specs.Links.{link_steps};
 
 use crate::context::Context;
 use crate::fork::{Cuts, Fork};
-use crate::walk::{Action, go, holds};
+use crate::walk;
+use crate::walk::{Action, go, holds, sift};
 use crate::wide::is_wide;
 use crate::work_items::{WorkItem, WorkItems, work_items};
 use jp_found::{Found, append, fresh, is_full, visitor_of};
@@ -132,8 +133,11 @@ fn each_of<'v, R: Threads + Sync, F: Fork + Sync, V: Visit + Drop + Send>(
     ensures path { OnOk result (path.new ≡ path.old) }
 {
     let cuts = splitting.cuts;
+    if cuts.left == 0 {
+        return whole(splitting.context, action, children, path, found);
+    }
     // `Cuts` has a floor of 2 or more, but no field says so: one child has no two smaller halves.
-    if cuts.left == 0 || !children.has(cuts.floor.max(2)) {
+    if !children.has(cuts.floor.max(2)) {
         return one_by_one(splitting, action, children, path, found);
     }
     let further = Splitting {
@@ -184,6 +188,24 @@ fn each_of<'v, R: Threads + Sync, F: Fork + Sync, V: Visit + Drop + Send>(
     );
     append(found, first?)?;
     append(found, second?)
+}
+
+/// The action at each of these children, of which no list is cut any more.
+fn whole<'v, V: Visit + Drop>(
+    context: &Context<'v>,
+    action: Action<'v>,
+    children: ChildRange<'_, 'v>,
+    path: &mut PathStack<'v>,
+    found: &mut Found<'v, V>,
+) -> Result<(), AllocError>
+    ensures found { OnOk result (Finds V.kept V.put found.old found.new (flat_map
+        (done (base_of context.now) action.entry) (range_nodes (link_steps path.old) children.entry))) }
+    ensures path { OnOk result (path.new ≡ path.old) }
+{
+    match action {
+        Action::Test(test, rest) => sift(context, test, rest, children, path, found),
+        _ => walk::each_of(context, action, children, path, found),
+    }
 }
 
 /// The action at each of the children of a half, for a visitor of its own.

@@ -18,9 +18,10 @@ ghost use Rattle.jp_node.specs.Nodes.{children, items_at};
 ghost use Rattle.jp_node.specs.Selected.{index_places};
 ghost use Rattle.jp_eval.specs.inner.Base.{Base, base_of};
 ghost use Rattle.jp_eval.specs.inner.Walk.{picked, picked_by, reached, is_true, value_given, nodes_given};
-ghost use Rattle.jp_eval.specs.inner.Walk.{done};
+ghost use Rattle.jp_eval.specs.inner.Walk.{done, sifted};
 
 use crate::context::Context;
+use crate::local::{decided, is_local};
 use crate::singular::answer_of;
 use jp_compiled::{CompiledLogical, CompiledSegment, CompiledSelector, Giver, Nodes, Want};
 use jp_flat::{FlatItems, FlatMember};
@@ -234,7 +235,7 @@ fn select<'v, V: Visit + Drop>(
         CompiledSelector::Filter(test) => match context.known_truth(test) {
             Some(true) => each_child(context, Action::Run(rest), opened, path, found),
             Some(false) => Ok(()),
-            None => each_child(context, Action::Test(test, rest), opened, path, found),
+            None => sift_children(context, test, rest, opened, path, found),
         },
     }
 }
@@ -262,7 +263,7 @@ fn each_child<'v, V: Visit + Drop>(
 
 /// The action at each of these children, one after another.
 #[cycle(walk)]
-fn each_of<'v, V: Visit + Drop>(
+pub(crate) fn each_of<'v, V: Visit + Drop>(
     context: &Context<'v>,
     action: Action<'v>,
     children: ChildRange<'_, 'v>,
@@ -386,6 +387,87 @@ fn at_child<'v, V: Visit + Drop>(
     path.push(child.link)?;
     go(context, action, child.part, path, found)?;
     path.pop();
+    Ok(())
+}
+
+/// The segments at each child of the value of which the expression is true.
+// It is no part of `select`, through which each selector goes.
+#[cycle(walk)]
+#[inline(never)]
+fn sift_children<'v, V: Visit + Drop>(
+    context: &Context<'v>,
+    test: &'v CompiledLogical,
+    rest: &'v [CompiledSegment],
+    opened: Opened<'_, 'v>,
+    path: &mut PathStack<'v>,
+    found: &mut Found<'v, V>,
+) -> Result<(), AllocError>
+    requires opened { AreChildren opened }
+    ensures found { OnOk result (Finds V.kept V.put found.old found.new (flat_map
+        (sifted (base_of context.now) test.now rest.now) (children (here path.old opened.entry.value)))) }
+    ensures path { OnOk result (path.new ≡ path.old) }
+{
+    if let Some(children) = opened.range {
+        return sift(context, test, rest, children, path, found);
+    }
+    let children = children_of(context.alloc, opened.value)?;
+    sift(context, test, rest, ChildRange::all(&children), path, found)
+}
+
+/// The segments at each of these children of which the expression is true.
+#[cycle(walk)]
+pub(crate) fn sift<'v, V: Visit + Drop>(
+    context: &Context<'v>,
+    test: &'v CompiledLogical,
+    rest: &'v [CompiledSegment],
+    children: ChildRange<'_, 'v>,
+    path: &mut PathStack<'v>,
+    found: &mut Found<'v, V>,
+) -> Result<(), AllocError>
+    ensures found { OnOk result (Finds V.kept V.put found.old found.new (flat_map
+        (sifted (base_of context.now) test.now rest.now)
+        (range_nodes (link_steps path.old) children.entry))) }
+    ensures path { OnOk result (path.new ≡ path.old) }
+{
+    // It is asked once for all of them, so that no test is answered in part for each, and then anew.
+    if !is_local(test) {
+        return each_of(context, Action::Test(test, rest), children, path, found);
+    }
+    let mut left = children;
+    while let Some((child, others)) = left.split_first() {
+        if is_full(found) {
+            return Ok(());
+        }
+        left = others;
+        at_sifted(context, test, rest, child, path, found)?;
+    }
+    Ok(())
+}
+
+/// The segments at a child of the value at the path, where the expression is true of it. A child that is not
+/// selected costs no link, where its value alone decides that.
+#[inline(always)]
+#[cycle(walk)]
+fn at_sifted<'v, V: Visit + Drop>(
+    context: &Context<'v>,
+    test: &'v CompiledLogical,
+    rest: &'v [CompiledSegment],
+    child: Child<'v>,
+    path: &mut PathStack<'v>,
+    found: &mut Found<'v, V>,
+) -> Result<(), AllocError>
+    ensures found { OnOk result (Finds V.kept V.put found.old found.new
+        (sifted (base_of context.now) test.now rest.now (child_node (link_steps path.old) child.entry))) }
+    ensures path { OnOk result (path.new ≡ path.old) }
+{
+    let Some(truth) = decided(context, test, child.part)? else {
+        return at_child(context, Action::Test(test, rest), child, path, found);
+    };
+    if truth {
+        path.push(child.link)?;
+        run(context, rest, child.part, path, found)?;
+        path.pop();
+    }
     Ok(())
 }
 

@@ -43,8 +43,12 @@ unfoldable pub nodes_given : Base → Nodes → Want → Node → List Node
 nodes_given base q want n = as_nodes (spec.handed tests base.root
     (source_argument (nodes_in base.roots q want)) n)
 
+-- the segments from a node on, where the expression is true of it
+abbrev pub sifted : Base → CompiledLogical → List CompiledSegment → Node → List Node
+sifted base l rest n = reached base rest (filter (is_true base l) (n ∷ []))
+
 -- what an action finds at a node
 abbrev pub done : Base → Action → Node → List Node
 done base (Run rest) n = reached base rest.now (n ∷ [])
 done base (Descend xs rest) n = reached base rest.now (flat_map (picked_by base xs.now) (descendants n))
-done base (Test l rest) n = reached base rest.now (filter (is_true base l.now) (n ∷ []))
+done base (Test l rest) n = sifted base l.now rest.now n

@@ -158,6 +158,6 @@ each_of-join-first-requires-send-F g t c κs within =
     (record { mir = named 9; lft = κs.1.1.1.1.1.1.1.1.1.0 })
     (record { mir = named 10; lft = κs.1.1.1.1.1.1.1.1.1.1.0 })
     (record { mir = named 11; lft = κs.1.1.1.1.1.1.1.1.1.1.1.0 }) r f v in
-    param_send 1 (lts.arg-6-1 g.row.R g.row.F g.row.V g.R.laws g.F.laws g.V.laws g.R.Threads-dict
+    param_send 1 (lts.arg-7-1 g.row.R g.row.F g.row.V g.R.laws g.F.laws g.V.laws g.R.Threads-dict
     g.F.Fork-dict g.V.Visit-dict g.V.Destruct-dict κs)
     (record { owned = sent.owned; leaving = λ k x w. (tt, (tt, tt)) })

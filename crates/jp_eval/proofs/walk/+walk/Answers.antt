@@ -20,7 +20,7 @@ use Rattle.jp_node.specs.BoundsView.{bounds_value}
 use Rattle.jp_value.specs.Comparison.{compared}
 use Rattle.jp_value.specs.Functions.{tested, length_value}
 use Rattle.jp_value.specs.Functions.{exactly_one}
-use Rattle.jp_node.specs.ChildNodes.{listed_nodes}
+use Rattle.jp_node.specs.ChildNodes.{listed_nodes, child_node}
 use Rattle.jp_node.specs.ChildRanges.{range_nodes}
 use Rattle.jp_node.specs.Nodes.{children, descendants, items_at, node_if_some}
 use Rattle.jp_value.specs.Literals.{written_value}
@@ -30,6 +30,7 @@ use Rattle.jp_node.specs.Links.{link_steps}
 use Rattle.jp_node.specs.Part.{part_value}
 use Rattle.jp_value.specs.RightTests.{tests}
 use Rattle.jp_eval.specs.inner.Walk.{picked, picked_by, reached, is_true, value_given, nodes_given, done}
+use Rattle.jp_eval.specs.inner.Walk.{sifted}
 use Rattle.jp_eval.proofs.Chains.{reached-none, reached-end, reached-each, reached-plain}
 use Rattle.jp_eval.proofs.Chains.{reached-deep}
 use Rattle.jp_eval.proofs.Gathered.{child_node_done}
@@ -44,6 +45,8 @@ use Rattle.jp_eval.proofs.Uniformity.{true_along, false_along, kept_each}
 use Rattle.jp_node.specs.Selected.{index_places}
 use Rattle.jp_eval.proofs.WalkSteps.{back_up, here_further, link_further, over, applied, descended}
 use Rattle.jp_eval.proofs.WalkSteps.{any_further, any_found, all_further, all_found}
+use Rattle.jp_eval.proofs.WalkSteps.{sifted_in, sifted_out}
+use Rattle.jp_eval.proofs.Deciding.{some_of}
 use Rattle.jp_eval.proofs.walk.+walk.Goals as goal
 
 pub apply-loop-selector-preserved : goal.apply-loop-selector-preserved
@@ -143,6 +146,57 @@ each_in-returns-clause-found g t c =
     ended put _ _ _ (ap (λ ns. plus put (kept g.V.Visit.kept c.loop-child.found)
     (flat_map (done base c.args.action) ns))
     (sym (c.in_default.ensures.nodes (link_steps c.loop-child.path))) ∙ c.loop-child.invariant.2)
+
+pub sift-loop-child-preserved : goal.sift-loop-child-preserved
+sift-loop-child-preserved g t c =
+    let base = base_of c.args.context.now in
+    let put = put_found g.V.Visit.put in
+    rw c.in_ok-at_sifted.ensures.path (
+      c.loop-child.invariant.0,
+      omega (arith, c.in-Some.ensures.height, c.loop-child.invariant.1),
+      child_node_done put (sifted base c.args.test.now c.args.rest.now) _ _ _ _ _ _ _
+          (c.in-Some.ensures.nodes (link_steps c.loop-child.path)) c.in_ok-at_sifted.ensures.found
+          c.loop-child.invariant.2,
+    )
+
+pub sift-returns-then-is_full-clause-found : goal.sift-returns-then-is_full-clause-found
+sift-returns-then-is_full-clause-found g t c =
+    let put = put_found g.V.Visit.put in
+    full_enough put _ _ _ _ (c.is_full.ensures c.if-is_full.true) c.loop-child.invariant.2
+
+pub sift-returns-clause-found : goal.sift-returns-clause-found
+sift-returns-clause-found g t c =
+    let base = base_of c.args.context.now in
+    let put = put_found g.V.Visit.put in
+    ended put _ _ _ (ap (λ ns. plus put (kept g.V.Visit.kept c.loop-child.found)
+    (flat_map (sifted base c.args.test.now c.args.rest.now) ns))
+    (sym (c.in_default.ensures.nodes (link_steps c.loop-child.path))) ∙ c.loop-child.invariant.2)
+
+pub at_sifted-returns-in_ok-run-clause-found : goal.at_sifted-returns-in_ok-run-clause-found
+at_sifted-returns-in_ok-run-clause-found g t c =
+    let base = base_of c.args.context.now in
+    let put = put_found g.V.Visit.put in
+    let had = kept g.V.Visit.kept c.args.found.now in
+    let n = child_node (link_steps c.args.path.now) c.args.child in
+    let truth : is_true base c.args.test.now n ≡ true =
+    sym (some_of _ _ _ c.in-Some.is c.in_ok-truth.ensures _) ∙ c.if-truth.true in
+    c.in_ok-run.ensures.found ∙ ap (λ s. plus put had
+    (reached base c.args.rest.now (node s (part_value c.args.child.part) ∷ [])))
+    (link_further c.args.path.now c.push.new.self _ c.in_ok-push.ensures.ok)
+    ∙ ap (plus put had) (sym (sifted_in base c.args.test.now c.args.rest.now n truth))
+
+pub at_sifted-returns-in_ok-run-clause-path : goal.at_sifted-returns-in_ok-run-clause-path
+at_sifted-returns-in_ok-run-clause-path g t c =
+    back_up _ _ _ _ _ c.in_ok-push.ensures.ok c.in_ok-run.ensures.path c.pop.ensures
+
+pub at_sifted-returns-else-truth-clause-found : goal.at_sifted-returns-else-truth-clause-found
+at_sifted-returns-else-truth-clause-found g t c =
+    let base = base_of c.args.context.now in
+    let put = put_found g.V.Visit.put in
+    let n = child_node (link_steps c.args.path.now) c.args.child in
+    let truth : is_true base c.args.test.now n ≡ false =
+    sym (some_of _ _ _ c.in-Some.is c.in_ok-truth.ensures _) ∙ c.if-truth.false in
+    nothing_found put _ _ (sifted_out base c.args.test.now c.args.rest.now n truth)
 
 pub at_child-returns-then-is_idle-clause-found : goal.at_child-returns-then-is_idle-clause-found
 at_child-returns-then-is_idle-clause-found g t c =
@@ -361,9 +415,9 @@ select-returns-in-None-known_truth-clause-found g t c =
     let n = here c.args.path.now c.args.opened.value in
     let put = put_found g.V.Visit.put in
     let had = kept g.V.Visit.kept c.args.found.now in
-    on_ok_weaker c.each_child-in-None-known_truth.result (λ e. e ∙ ap (plus put had)
+    on_ok_weaker c.sift_children.result (λ e. e ∙ ap (plus put had)
     (sym (kept_each base c.args.rest.now n c.args.selector.now c.in-Filter.test c.in-Filter.is)))
-    c.each_child-in-None-known_truth.ensures.found
+    c.sift_children.ensures.found
 
 pub holds-returns-in-Some-clause-truth : goal.holds-returns-in-Some-clause-truth
 holds-returns-in-Some-clause-truth g t c =

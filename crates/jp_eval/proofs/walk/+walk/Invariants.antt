@@ -15,7 +15,7 @@ use Rattle.jp_node.specs.Links.{link_steps}
 use Rattle.jp_node.specs.ChildRanges.{range_nodes, range_height, range_length, of_flat_items}
 use Rattle.jp_node.specs.ChildRanges.{flat_member_nodes, flat_members_height}
 use Rattle.jp_node.specs.Part.{part_value}
-use Rattle.jp_eval.specs.inner.Walk.{picked_by, reached, is_true, done}
+use Rattle.jp_eval.specs.inner.Walk.{picked_by, reached, is_true, sifted, done}
 use Rattle.jp_node.specs.declared.part.Part.{Part}
 use Rattle.jp_eval.specs.declared.walk.Action.{Action}
 use Rattle.jp_eval.specs.declared.walk.Action.TheVariants.{Run, Descend, Test}
@@ -71,6 +71,15 @@ decreases-each_in g l = 2000 * task_size l.action + 16 * range_height l.children
 
 abbrev pub decreases-at_child : goal.decreases-at_child
 decreases-at_child g l = weight (task_size l.action) (l.child.part) 10
+
+abbrev pub decreases-sift_children : goal.decreases-sift_children
+decreases-sift_children g l = weight (task_size (Test l.test l.rest)) l.opened.value 3
+
+abbrev pub decreases-sift : goal.decreases-sift
+decreases-sift g l = 2000 * task_size (Test l.test l.rest) + 16 * range_height l.children + 2
+
+abbrev pub decreases-at_sifted : goal.decreases-at_sifted
+decreases-at_sifted g l = weight (task_size (Test l.test l.rest)) (l.child.part) 11
 
 abbrev pub decreases-ask : goal.decreases-ask
 decreases-ask g l = weight (size-Nodes l.nodes.now) l.value 7
@@ -139,6 +148,16 @@ invariant-each_in-loop-child g l =
 
 abbrev pub decreases-each_in-loop-child : goal.decreases-each_in-loop-child
 decreases-each_in-loop-child g l = range_length l.rest
+
+abbrev pub invariant-sift-loop-child : goal.invariant-sift-loop-child
+invariant-sift-loop-child g l =
+    (l.path ≡ l.initial.path) × (range_height l.left ≤ range_height l.children)
+    × IsDone (put_found g.V.Visit.put) (kept g.V.Visit.kept l.found) (kept g.V.Visit.kept l.initial.found)
+    (sifted (base_of l.context) l.test l.rest) (range_nodes (link_steps l.path) l.left)
+    (range_nodes (link_steps l.initial.path) l.children)
+
+abbrev pub decreases-sift-loop-child : goal.decreases-sift-loop-child
+decreases-sift-loop-child g l = range_length l.left
 
 abbrev pub invariant-any-loop-part : goal.invariant-any-loop-part
 invariant-any-loop-part g l =
