@@ -73,6 +73,10 @@ GROUPS = [
     ("it is one line, and two texts are never one", FURTHER, [
         ("jp_output", "src/laws", "texts_read_back"),
     ]),
+    ("With `-0` each value, text or raw text ends with the byte 0 in the place of the line feed", FURTHER, [
+        ("jp_output", "src/laws", "values_ended_by_null"),
+        ("jp_output", "src/laws", "raw_ended_by_null"),
+    ]),
     ("With `lines` each line of the input with a selected node stands once, byte for byte as it came", FURTHER, [
         ("jp_output", "src/laws", "lines_with_nodes"),
         ("jp_output", "src/laws", "lines_of_first_fields"),

@@ -15,6 +15,7 @@ use Rattle.jp_doc.specs.declared.fault.DocFault.{DocFault}
 use Rattle.jp_node.specs.declared.visit.Visit as visit
 use Rattle.jp_output.specs.OutputForm.{OutputForm}
 use Rattle.jp_output.specs.declared.form.Form as form
+use Rattle.jp_output.specs.declared.layout.Layout.{Layout}
 use Rattle.jp_answer.specs.Answer.{Answer, joined, nothing, unless_stopped}
 use Rattle.jp_answer.specs.Answered.{outcome_of}
 use Rattle.jp_answer.specs.Asking.{asked_query}
@@ -62,7 +63,7 @@ joined_first : (d : Answer) (a : Answer) → d ≡ nothing → joined d a ≡ a
 joined_first d a e = ap (λ (x : Answer). joined x a) e ∙ nothing_first a
 
 -- the answer to a task is put behind what was gathered, which has not stopped
-pub has_put : (form : List ℕ → OutputForm) (task : Task) (before after : Gathered) (more : Outcome)
+pub has_put : (form : Layout → OutputForm) (task : Task) (before after : Gathered) (more : Outcome)
     → (gathered_of before).stopped ≡ None → IsTaskAnswer form task more
     → gathered_of after ≡ joined (gathered_of before) (outcome_of more) → HasPut form task before after
 has_put form task before after more unstopped is put =
@@ -82,13 +83,13 @@ module _ {F : Type 0} {g : form.Ghosts F} {v : visit.Ghosts F} where
       ∙ sym (append_assoc (sent_task x).lines (sent_lines out) (sent_task s).lines)
 
   -- two steps, of which the first keeps what is asked
-  pub gathers_then : (f : List ℕ → OutputForm) (o p r : Queue F g v) (x y z : Gathered)
+  pub gathers_then : (f : Layout → OutputForm) (o p r : Queue F g v) (x y z : Gathered)
       → p.asked ≡ o.asked → GathersOn f o p x y → GathersOn f p r y z → GathersOn f o r x z
   gathers_then f o p r x y z same first second = λ all rest h.
       subst (λ a. Gathers f a all rest r.sent.items z) same
       (second all rest (subst (λ a. Gathers f a all rest p.sent.items y) (sym same) (first all rest h)))
 
-  module _ (f : List ℕ → OutputForm) (asked : Asked) (all : List Line) where
+  module _ (f : Layout → OutputForm) (asked : Asked) (all : List Line) where
     pub gathers_start : (done : Gathered) → length all ≤ max_pieces → gathered_of done ≡ nothing
         → done.faulty ≡ 0 → Gathers {F = F} {g = g} {v = v} f asked all all [] done
     gathers_start done few e n = record {
@@ -136,7 +137,7 @@ module _ {F : Type 0} {g : form.Ghosts F} {v : visit.Ghosts F} where
               h.answer t right
               ∙ ap (λ l. joined (gathered_of done) (asked_answer f asked t l)) cut
               ∙ ap (joined (gathered_of done))
-              (formed_joined (f asked.head.now) t (asked_query asked) asked.policy ls more)
+              (formed_joined (f asked.layout.now) t (asked_query asked) asked.policy ls more)
               ∙ sym (joined_assoc (gathered_of done) first (asked_answer f asked t more))
               ∙ ap (λ (a : Answer). joined a (asked_answer f asked t more)) (sym put);
           passed = omega (
@@ -161,7 +162,7 @@ module _ {F : Type 0} {g : form.Ghosts F} {v : visit.Ghosts F} where
       answer = λ t right. h.answer t right
           ∙ ap (λ l. joined (gathered_of done) (asked_answer f asked t l)) none
           ∙ ap (joined (gathered_of done))
-          (nothing_in (f asked.head.now) t (asked_query asked) asked.policy)
+          (nothing_in (f asked.layout.now) t (asked_query asked) asked.policy)
           ∙ joined_nothing (gathered_of done);
       passed = omega (arith, h.passed, ap (passed_in asked.policy) none, passed_none asked.policy);
     }
@@ -202,6 +203,6 @@ some_told None e = absurd (cc)
 some_told (Some x) e = refl
 
 -- an answer to a task passes no more faulty lines than a board has pieces
-pub few_of_task : (f : List ℕ → OutputForm) (task : Task) (a : Outcome) → IsTaskAnswer f task a
+pub few_of_task : (f : Layout → OutputForm) (task : Task) (a : Outcome) → IsTaskAnswer f task a
     → a.faulty ≤ max_pieces
 few_of_task f task a h = omega (arith, h.passed, passed_few task.asked.policy task.lines, task.few_lines)

@@ -1,8 +1,9 @@
 -- What a task is answered with.
-use Rattle.std.specs.Prelude.{◌≡◌, ℕ, List}
+use Rattle.std.specs.Prelude.{◌≡◌, List}
 use Rattle.jp_doc.specs.Lines.{Line}
 use Rattle.jp_pattern.specs.Tests.{Tests, AreRight}
 use Rattle.jp_output.specs.OutputForm.{OutputForm}
+use Rattle.jp_output.specs.declared.layout.Layout.{Layout}
 use Rattle.jp_answer.specs.Answer.{answer_by}
 use Rattle.jp_answer.specs.Answered.{outcome_of}
 use Rattle.jp_answer.specs.Asking.{asked_query}
@@ -19,7 +20,7 @@ pub record IsAnswerTo (form : OutputForm) (p : LinePolicy) (q : FilteredQuery) (
   pub stopped : stop_in p ls ≡ (outcome_of a).stopped
   pub passed : passed_in p ls ≡ a.faulty
 
--- this is the answer to the task, in a form with the head that is asked for
-abbrev pub IsTaskAnswer : (List ℕ → OutputForm) → Task → Outcome → Type 0
+-- this is the answer to the task, in a form with the layout that is asked for
+abbrev pub IsTaskAnswer : (Layout → OutputForm) → Task → Outcome → Type 0
 IsTaskAnswer form t a =
-    IsAnswerTo (form t.asked.head.now) t.asked.policy (asked_query t.asked) t.lines a
+    IsAnswerTo (form t.asked.layout.now) t.asked.policy (asked_query t.asked) t.lines a

@@ -44,7 +44,7 @@ impl Answerer {
         lines: &[LineRef<'_>],
     ) -> Result<Outcome, AllocError>
         requires { length lines.now ≤ max_pieces }
-        ensures { IfOk result (IsAnswerTo (F.says asked.now.head.now) asked.now.policy
+        ensures { IfOk result (IsAnswerTo (F.says asked.now.layout.now) asked.now.policy
             (asked_query asked.now) (map line_at lines.now)) }
     {
         // The evaluator is of these lines' own query: no clause says that all ask the same (README, Each

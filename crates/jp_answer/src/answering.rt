@@ -49,7 +49,7 @@ pub(crate) fn answer_lines<R: Threads + Sync, G, F: Form + Drop + Send>(
 ) -> Result<Outcome, AllocError>
     requires few { length lines.now ≤ max_pieces }
     requires query { filtered_query tools.old.evaluator ≡ asked_query asked.now }
-    ensures answer { IfOk result (λ a. (t : Tests) → AreRight t → answer_by (F.says asked.now.head.now)
+    ensures answer { IfOk result (λ a. (t : Tests) → AreRight t → answer_by (F.says asked.now.layout.now)
         asked.now.policy t (asked_query asked.now) (map line_at lines.now) ≡ outcome_of a) }
     ensures stopped { IfOk result (λ a. stop_in asked.now.policy (map line_at lines.now)
         ≡ (outcome_of a).stopped) }
@@ -57,7 +57,7 @@ pub(crate) fn answer_lines<R: Threads + Sync, G, F: Form + Drop + Send>(
         ≡ a.faulty) }
     ensures query { filtered_query tools.new.evaluator ≡ filtered_query tools.old.evaluator }
 {
-    let mut written = F::new(crew.alloc, asked.head);
+    let mut written = F::new(crew.alloc, asked.layout);
     let mut faulty = 0;
     for line in lines {
         let Some(fault) = add_line(crew, asked, tools, line, &mut written)? else {

@@ -44,7 +44,7 @@ pub fn answer_by_workers<R: Threads + Sync, G: Gate + Sync, F: Form + Drop + Sen
     requires lines { length lines.now ≤ max_pieces }
     requires piece { AreDocuments piece }
     ensures answer { IfOk result (λ a. (t : Tests) → AreRight t →
-        answer_by (F.says asked.entry.head.now) asked.entry.policy t
+        answer_by (F.says asked.entry.layout.now) asked.entry.policy t
         (asked_query asked.entry) (map line_at lines.now) ≡ outcome_of a) }
     ensures passed { IfOk result (λ a. passed_in asked.entry.policy (map line_at lines.now) ≡ a.faulty) }
 {

@@ -7,7 +7,7 @@ use crate::tasks::{
 };
 use jp_answer::{Answerer, Asked, Block, Crew, Gate, LinePolicy, OpenGate, Ring, beside_workers};
 use jp_check::plan;
-use jp_output::{Head, NodeLines};
+use jp_output::{Ending, Head, Layout, NodeLines};
 use std::alloc::Global;
 use std::sync::Arc;
 use std::sync::atomic::AtomicU64;
@@ -147,7 +147,16 @@ fn ran<R: Threads + Sync>(rt: &R, alloc: Global, way: Way) -> Option<u64> {
     let Ok(head) = Head::of_name(alloc, "b.jsonl") else {
         return None;
     };
-    ran_of(rt, alloc, asked_of(plan.compiled(), &head, way.policy), way)
+    let layout = Layout {
+        head,
+        ending: Ending::LineFeed,
+    };
+    ran_of(
+        rt,
+        alloc,
+        asked_of(plan.compiled(), &layout, way.policy),
+        way,
+    )
 }
 
 /// A run over 40 blocks which waits for what workers answer.
@@ -241,8 +250,8 @@ fn leaves_second<R: Threads + Sync>(rt: &R, alloc: Global) -> Option<bool> {
     let Ok(plan) = plan(alloc, "$[0]") else {
         return None;
     };
-    let head = Head::none();
-    let blocks = blocks_of(alloc, asked_of(plan.compiled(), &head, stopping()), 2)?;
+    let layout = Layout::plain();
+    let blocks = blocks_of(alloc, asked_of(plan.compiled(), &layout, stopping()), 2)?;
     let Ok(ring) = Ring::new(alloc) else {
         return None;
     };

@@ -5,7 +5,7 @@ use jp_answer::{Answerer, Asked, Block, Crew, DocStop, LinePolicy, OnFault, Open
 use jp_check::plan;
 use jp_doc::DocFault;
 use jp_number::Numbers;
-use jp_output::{Head, NodeLines};
+use jp_output::{Ending, Head, Layout, NodeLines};
 use std::alloc::Global;
 use std::thread::Threads;
 
@@ -46,18 +46,18 @@ fn second_line() -> Option<DocStop> {
     })
 }
 
-/// Whether a block of the four lines, of which `$.a` is asked behind a head by a policy, is answered so.
-fn is_filled_behind<R: Threads + Sync>(
+/// Whether a block of the four lines, of which `$.a` is asked in a layout by a policy, is answered so.
+fn is_filled_in<R: Threads + Sync>(
     rt: &R,
     alloc: Global,
-    head: &Head,
+    layout: &Layout,
     policy: LinePolicy,
     wanted: (&str, u64, Option<DocStop>),
 ) -> Option<bool> {
     let Ok(plan) = plan(alloc, "$.a") else {
         return None;
     };
-    filled(rt, alloc, asked_of(plan.compiled(), head, policy), wanted)
+    filled(rt, alloc, asked_of(plan.compiled(), layout, policy), wanted)
 }
 
 /// The same, with no head.
@@ -67,7 +67,7 @@ fn is_filled<R: Threads + Sync>(
     policy: LinePolicy,
     wanted: (&str, u64, Option<DocStop>),
 ) -> Option<bool> {
-    is_filled_behind(rt, alloc, &Head::none(), policy, wanted)
+    is_filled_in(rt, alloc, &Layout::plain(), policy, wanted)
 }
 
 #[test]
@@ -96,7 +96,11 @@ fn is_filled_named<R: Threads + Sync>(
     let Ok(head) = Head::of_name(alloc, name) else {
         return None;
     };
-    is_filled_behind(rt, alloc, &head, going_on(), wanted)
+    let layout = Layout {
+        head,
+        ending: Ending::LineFeed,
+    };
+    is_filled_in(rt, alloc, &layout, going_on(), wanted)
 }
 
 #[test]

@@ -3,7 +3,7 @@
 use crate::tasks::{asked_of, has_bytes, lines_of, stopping};
 use jp_answer::{Asked, Crew, Gate, Queue, Ring};
 use jp_check::plan;
-use jp_output::{Head, NodeLines};
+use jp_output::{Layout, NodeLines};
 use std::alloc::Global;
 use std::sync::atomic::{AtomicU64, Ordering};
 use std::thread::Threads;
@@ -81,8 +81,8 @@ fn in_order(rt: HostRuntime) {
     let Ok(plan) = plan(rt.alloc(), "$") else {
         return;
     };
-    let head = Head::none();
-    let asked = asked_of(plan.compiled(), &head, stopping());
+    let layout = Layout::plain();
+    let asked = asked_of(plan.compiled(), &layout, stopping());
     assert!(rt; is_in_order(&rt, rt.alloc(), asked) == Some(true));
 }
 
@@ -105,7 +105,7 @@ fn buffers(rt: HostRuntime) {
     let Ok(plan) = plan(rt.alloc(), "$") else {
         return;
     };
-    let head = Head::none();
-    let asked = asked_of(plan.compiled(), &head, stopping());
+    let layout = Layout::plain();
+    let asked = asked_of(plan.compiled(), &layout, stopping());
     assert!(rt; has_buffers(rt.alloc(), asked) == Some(true));
 }

@@ -3,7 +3,7 @@
 use crate::tasks::{asked_of, lines_of, stopping, task_of};
 use jp_answer::{Asked, Block, Ring};
 use jp_check::plan;
-use jp_output::{Head, NodeLines};
+use jp_output::{Layout, NodeLines};
 use std::alloc::Global;
 use std::sync::Arc;
 
@@ -49,8 +49,8 @@ fn taken_back(rt: HostRuntime) {
     let Ok(plan) = plan(rt.alloc(), "$") else {
         return;
     };
-    let head = Head::none();
-    let asked = asked_of(plan.compiled(), &head, stopping());
+    let layout = Layout::plain();
+    let asked = asked_of(plan.compiled(), &layout, stopping());
     assert!(rt; is_taken_back(rt.alloc(), asked) == Some(true));
 }
 
@@ -71,7 +71,7 @@ fn in_its_place(rt: HostRuntime) {
     let Ok(plan) = plan(rt.alloc(), "$") else {
         return;
     };
-    let head = Head::none();
-    let asked = asked_of(plan.compiled(), &head, stopping());
+    let layout = Layout::plain();
+    let asked = asked_of(plan.compiled(), &layout, stopping());
     assert!(rt; is_in_its_place(rt.alloc(), asked) == Some(true));
 }

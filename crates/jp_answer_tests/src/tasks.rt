@@ -4,7 +4,7 @@ use jp_answer::{Answerer, Asked, Crew, LinePolicy, OnFault, Outcome, Task};
 use jp_buffer::WaitingLines;
 use jp_compiled::CompiledQuery;
 use jp_number::Numbers;
-use jp_output::{Head, NodeLines, join_chunks};
+use jp_output::{Layout, NodeLines, join_chunks};
 use std::alloc::Global;
 use std::thread::Threads;
 
@@ -48,16 +48,16 @@ pub(crate) fn many_lines(alloc: Global, text: &str, count: u64) -> Option<Waitin
     lines_of(alloc, &all, 1)
 }
 
-/// What is asked by a query behind a head, by a policy, of one worker.
+/// What is asked by a query in a layout, by a policy, of one worker.
 pub(crate) fn asked_of<'q>(
     query: &'q CompiledQuery,
-    head: &'q Head,
+    layout: &'q Layout,
     policy: LinePolicy,
 ) -> Asked<'q> {
     Asked {
         query,
         filter: None,
-        head,
+        layout,
         policy,
         workers: 1,
     }

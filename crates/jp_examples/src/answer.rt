@@ -2,7 +2,7 @@ use jp_answer::{Asked, Crew, LinePolicy, OnFault, OpenGate, Outcome, answer_by_w
 use jp_buffer::LineRef;
 use jp_compiled::CompiledQuery;
 use jp_number::Numbers;
-use jp_output::{Head, NodeLines};
+use jp_output::{Layout, NodeLines};
 use std::alloc::{AllocError, Global};
 use std::thread::Threads;
 
@@ -22,17 +22,17 @@ fn by_workers<R: Threads + Sync>(
         alloc,
         gate: &gate,
     };
-    let head = Head::none();
-    let asked = asked_of(query, &head);
+    let layout = Layout::plain();
+    let asked = asked_of(query, &layout);
     Some(answer_by_workers::<R, OpenGate, NodeLines>(&crew, asked, lines, 64))
 }
 
 /// What is asked of every document.
-fn asked_of<'q>(query: &'q CompiledQuery, head: &'q Head) -> Asked<'q> {
+fn asked_of<'q>(query: &'q CompiledQuery, layout: &'q Layout) -> Asked<'q> {
     Asked {
         query,
         filter: None,
-        head,
+        layout,
         policy: LinePolicy {
             numbers: Numbers::Whole,
             on_fault: OnFault::Stop,

@@ -1,11 +1,14 @@
 //! The forms of the answer: `{"forms":{"name":"a","turns":[{"number":1,"line":"[1,2]","places":[0]}]}}` is
-//! what each form writes of the turns, over trees and over flat documents.
+//! what each form writes of the turns, over trees and over flat documents. With `"null":true` U+0000 ends
+//! values.
 
 use jp_doc::Document;
 use jp_flat::LineReader;
 use jp_node::{Part, PathStack};
 use jp_number::Numbers;
-use jp_output::{Form, Head, InputLines, NodeLines, RawLines, TextLines, ValueLines, join_chunks};
+use jp_output::{
+    Ending, Form, Head, InputLines, Layout, NodeLines, RawLines, TextLines, ValueLines, join_chunks,
+};
 use jp_probe_parts::{Row, fault_named, number_in, text_of};
 use serde::Serialize;
 use std::alloc::{AllocError, Global};
@@ -35,7 +38,7 @@ struct Written {
 
 /// The answer to turns, which each form writes.
 pub fn answer_forms(alloc: Global, row: Row<'_>) -> anyhow::Result<String> {
-    row.has_only(&["name", "turns"])?;
+    row.has_only(&["name", "null", "turns"])?;
     let nodes = written_by::<NodeLines>(alloc, row)?;
     let values = written_by::<ValueLines>(alloc, row)?;
     let texts = written_by::<TextLines>(alloc, row)?;
@@ -75,13 +78,7 @@ fn written_over<F: Form + Drop>(
     row: Row<'_>,
     is_flat: bool,
 ) -> anyhow::Result<Written> {
-    // The name that stands before each line of nodes, if one does.
-    let head = match row.text_if_any("name")? {
-        Some(name) => Head::of_name(alloc, name)?,
-        None => Head::none(),
-    };
-    // Nothing but the form has what stands before its lines any more.
-    let mut form = F::new(alloc, &head.again());
+    let mut form = new_form::<F>(alloc, row)?;
     let mut reader = LineReader::new(alloc);
     let mut full = String::new(alloc);
     for turn in row.items("turns")? {
@@ -97,6 +94,21 @@ fn written_over<F: Form + Drop>(
     let bytes = join_chunks(alloc, form.into_chunks()?)?;
     let text = text_of(alloc, &bytes)?;
     Ok(Written { text, full })
+}
+
+/// A form that has written nothing. Nothing but it has what stands before its lines any more.
+fn new_form<F: Form>(alloc: Global, row: Row<'_>) -> anyhow::Result<F> {
+    // The name that stands before each line of nodes, if one does.
+    let head = match row.text_if_any("name")? {
+        Some(name) => Head::of_name(alloc, name)?,
+        None => Head::none(),
+    };
+    let ending = if row.flag("null")? {
+        Ending::Null
+    } else {
+        Ending::LineFeed
+    };
+    Ok(F::new(alloc, &Layout { head, ending }))
 }
 
 /// Has a form write a line of which nodes are visited, or one with a fault, which has no document.

@@ -15,7 +15,7 @@ use jp_buffer::{LineRef, WaitingLines, refs_of};
 use jp_check::{Plan, plan_in};
 use jp_doc::{Line, Lines};
 use jp_number::Numbers;
-use jp_output::{Form, Head, InputLines, NodeLines, RawLines, TextLines, ValueLines};
+use jp_output::{Form, Head, InputLines, Layout, NodeLines, RawLines, TextLines, ValueLines};
 use jp_probe_parts::{Row, items_in, number_in, text_in};
 use jp_run::{FromReader, FromWriter, Output, RunFault, Settings, answer, answer_all};
 use serde::Serialize;
@@ -130,13 +130,16 @@ fn all_ways<R: Threads + Sync>(
     let text = with_blanks(alloc, text, row.number("blanks")?)?;
     let mut lines = lines_of(alloc, text.as_bytes())?;
     add_numbered(alloc, row.items("numbered")?, &mut lines)?;
-    let head = head_of(alloc, settings.name)?;
+    let layout = Layout {
+        head: head_of(alloc, settings.name)?,
+        ending: settings.ending,
+    };
     let crew = Crew {
         rt,
         alloc,
         gate: &OpenGate,
     };
-    let asked = asked_of(plan, &head, settings);
+    let asked = asked_of(plan, &layout, settings);
     let mut ways = ways_of_form(&crew, asked, &lines, settings)?;
     if is_listed(settings) {
         let found = listed(&crew, plan, &lines, settings)?;
@@ -184,11 +187,11 @@ fn head_of(alloc: Global, name: Option<&str>) -> Result<Head, AllocError> {
 }
 
 /// What these settings ask of each line.
-fn asked_of<'q>(plan: &'q Plan, head: &'q Head, settings: &Settings<'_>) -> Asked<'q> {
+fn asked_of<'q>(plan: &'q Plan, layout: &'q Layout, settings: &Settings<'_>) -> Asked<'q> {
     Asked {
         query: plan.compiled(),
         filter: None,
-        head,
+        layout,
         policy: LinePolicy {
             numbers: settings.numbers,
             on_fault: settings.on_fault,

@@ -2,6 +2,7 @@
 
 use jp_answer::OnFault;
 use jp_number::Numbers;
+use jp_output::Ending;
 use jp_probe_parts::{Row, number_in, text_in};
 use jp_run::{Cutting, Output, RunFault, Settings};
 use serde::Serialize;
@@ -57,6 +58,7 @@ fn told_word<'v>(settings: Settings<'v>, word: &str) -> anyhow::Result<Settings<
         "keep_going" => settings.keep_going(),
         "decimals" => settings.with_decimals(),
         "documents" => settings.with_cutting(Cutting::Documents),
+        "null" => settings.with_ending(Ending::Null),
         _ => return Err(anyhow::anyhow!("settings in a row are told a word that they do not know")),
     })
 }
@@ -91,6 +93,8 @@ struct SettingsAnswer<'s> {
     keep_going: bool,
     decimals: bool,
     documents: bool,
+    /// Whether U+0000 ends values.
+    null: bool,
     /// The name of the form of an answer.
     form: &'static str,
     name: Option<&'s str>,
@@ -118,6 +122,7 @@ pub fn answer_settings(alloc: Global, row: Row<'_>) -> anyhow::Result<String> {
         keep_going: settings.on_fault == OnFault::KeepGoing,
         decimals: settings.numbers == Numbers::Decimals,
         documents: settings.cutting == Cutting::Documents,
+        null: settings.ending == Ending::Null,
         form: name_of(settings.output),
         name: settings.name,
         filter: settings.filter,

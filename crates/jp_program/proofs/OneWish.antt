@@ -14,6 +14,8 @@ use Rattle.jp_answer.specs.declared.on_fault.OnFault.{OnFault}
 use Rattle.jp_answer.specs.declared.on_fault.OnFault.TheVariants.{Stop, KeepGoing}
 use Rattle.jp_number.specs.declared.numbers.Numbers.{Numbers}
 use Rattle.jp_number.specs.declared.numbers.Numbers.TheVariants.{Whole, Decimals}
+use Rattle.jp_output.specs.declared.layout.Ending.{Ending}
+use Rattle.jp_output.specs.declared.layout.Ending.TheVariants.{LineFeed, Null}
 use Rattle.jp_run.specs.AskedTexts.{IsFilterRefused}
 use Rattle.jp_run.specs.Status.{status_of}
 use Rattle.jp_run.specs.declared.fault.RunFault.{RunFault}
@@ -24,6 +26,7 @@ use Rattle.jp_run.specs.declared.output.Output.{Output}
 use Rattle.jp_run.specs.declared.output.Output.TheVariants.{Nodes, Values, Texts, Raw, Lines}
 use Rattle.jp_program.specs.CommandLine.{said, refusals, AsksToShow}
 use Rattle.jp_program.specs.Outcome.{IsRefusedWish}
+use Rattle.jp_program.specs.Wanted.{ends_with_null}
 use Rattle.jp_program.specs.Wanted.{Wanted, SaysNames, SaysNumber, cuts_documents, flag_text, has_decimals}
 use Rattle.jp_program.specs.Wanted.{SaysFirst, Wants, WantsCheck, IsWrong, keeps_going, output_text}
 use Rattle.jp_program.specs.inner.Invocation.{IsAsked, IsNotAsked, wanted_of}
@@ -42,7 +45,7 @@ first None = 0
 first (Some []) = 0
 first (Some (b ∷ bs)) = b
 
-flag_same : (b d : Bool) → ◌≡◌ (Some (flag_text b)) (Some (flag_text d)) → b ≡ d
+pub flag_same : (b d : Bool) → ◌≡◌ (Some (flag_text b)) (Some (flag_text d)) → b ≡ d
 flag_same true true e = refl
 flag_same false false e = refl
 flag_same true false e = absurd (omega (arith, ap (λ (o : Option Text). length (unwrap_or o [])) e))
@@ -103,7 +106,14 @@ on_fault_same KeepGoing KeepGoing e = refl
 on_fault_same Stop KeepGoing e = absurd (let off : false ≡ true = flag_same false true e in cc)
 on_fault_same KeepGoing Stop e = absurd (let on : true ≡ false = flag_same true false e in cc)
 
-output_same : (x y : Output) → ◌≡◌ (Some (output_text x)) (Some (output_text y)) → x ≡ y
+ending_same : (x y : Ending)
+    → ◌≡◌ (Some (flag_text (ends_with_null x))) (Some (flag_text (ends_with_null y))) → x ≡ y
+ending_same LineFeed LineFeed e = refl
+ending_same Null Null e = refl
+ending_same LineFeed Null e = absurd (let off : false ≡ true = flag_same false true e in cc)
+ending_same Null LineFeed e = absurd (let on : true ≡ false = flag_same true false e in cc)
+
+pub output_same : (x y : Output) → ◌≡◌ (Some (output_text x)) (Some (output_text y)) → x ≡ y
 output_same x y e = sym (named_is x) ∙ ap (λ o. named (first o)) e ∙ named_is y
 
 pub one_wish : (words : List Text) (v w : Wanted) → Wants words v → Wants words w → v ≡ w
@@ -142,6 +152,17 @@ one_wish words v w a b =
       output = o;
     })
     (output_same v.output w.output (sym a.1.output ∙ b.1.output))
+    ∙ ap (λ (e : Ending). record v {
+      query = w.query;
+      filter = w.filter;
+      files = w.files;
+      names = w.names;
+      cutting = w.cutting;
+      check = w.check;
+      output = w.output;
+      ending = e;
+    })
+    (ending_same v.ending w.ending (sym a.1.ending.0 ∙ b.1.ending.0))
     ∙ ap (λ (n : Numbers). record w {
       numbers = n;
       on_fault = v.on_fault;

@@ -9,8 +9,12 @@ use Rattle.clap.specs.Matches.{ReadsOne}
 use Rattle.std.specs.Str.{chars}
 use Rattle.clap.specs.Walk.{Text, Row, texts, all_of, first_of, one_of}
 use Rattle.jp_run.specs.declared.output.Output.{Output}
-use Rattle.jp_program.specs.Wanted.{SaysNumber, SaysFlag, flag_text, SaysOutput}
+use Rattle.jp_output.specs.declared.layout.Ending.{Ending}
+use Rattle.jp_output.specs.declared.layout.Ending.TheVariants.{LineFeed, Null}
+use Rattle.jp_program.specs.Wanted.{SaysNumber, SaysFlag, flag_text, SaysOutput, SaysEnding, GoesWith}
+use Rattle.jp_program.specs.Wanted.{ends_with_null, is_of_values}
 use Rattle.jp_program.specs.Wanted.{AreSaid, SaysFilter, output_text}
+use Rattle.jp_program.proofs.OneWish.{flag_same}
 
 -- a text that is read as an option's value, by the type's own reading
 module _ {T E : Type 0} (reads : List ℕ → Result T E → Type 0) (o : Option Text) where
@@ -87,6 +91,23 @@ module _ (rows : List Row) (o : Option Text) (is : o ≡ first_of (codes "output
 pub flag_said : (name : Text) (rows : List Row) (there shown : Bool) → SaysFlag name rows there
     → there ≡ shown → SaysFlag name rows shown
 flag_said name rows there shown s e = subst (SaysFlag name rows) e s
+
+-- the ending is what is said of it, beside the form
+pub ending_said : (rows : List Row) (o p : Output) (e f : Ending) → p ≡ o → f ≡ e → SaysEnding rows o e
+    → SaysEnding rows p f
+ending_said rows o p e f form ending h =
+    subst (λ x. SaysEnding rows x f) (sym form) (subst (SaysEnding rows o) (sym ending) h)
+
+pub null_unsaid : (rows : List Row) (o : Output) (e : Ending) → SaysFlag (codes "null") rows true
+    → is_of_values o ≡ false → SaysEnding rows o e → ⊥
+null_unsaid rows o LineFeed there off s =
+    let no : true ≡ false = flag_same true false (sym there ∙ s.0) in absurd (cc)
+null_unsaid rows o Null there off s = absurd (let no : true ≡ false = sym s.1 ∙ off in cc)
+
+pub goes_with : (o : Output) (e : Ending) (null : Bool) → null ≡ ends_with_null e
+    → (null ≡ true → is_of_values o ≡ true) → GoesWith e o
+goes_with o LineFeed null is h = tt
+goes_with o Null null is h = h is
 
 -- the query's text is what is said of it
 module _ (name : Text) (rows : List Row) (o : Option Text) (is : o ≡ first_of name rows) where

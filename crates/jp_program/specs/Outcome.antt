@@ -11,6 +11,7 @@ use Rattle.jp_answer.specs.FilteredQuery.{FilteredQuery}
 use Rattle.jp_answer.specs.Policy.{policy}
 use Rattle.jp_answer.specs.declared.on_fault.OnFault.{OnFault}
 use Rattle.jp_answer.specs.declared.on_fault.OnFault.TheVariants.{Stop, KeepGoing}
+use Rattle.jp_output.specs.Layouts.{laid_out}
 use Rattle.jp_output.specs.OutputForm.{OutputForm}
 use Rattle.jp_run.specs.Answered.{IsAnswerBy}
 use Rattle.jp_run.specs.AskedTexts.{AskedTexts, AreAcceptedIn, AreRefusedIn}
@@ -48,9 +49,9 @@ IsRefusedWish w fault = AreRefusedIn w.numbers (asked_in w) fault
 abbrev pub head_of : Wanted → Text → List ℕ
 head_of w name = if w.names then name ++ 9 ∷ [] else []
 
--- the wanted form of the answer to an input of this name
+-- the wanted form of the answer to an input of this name, with the wanted ending
 abbrev pub form_for : Wanted → Text → OutputForm
-form_for w name = form_of w.output (head_of w name)
+form_for w name = form_of w.output (laid_out (head_of w name) w.ending)
 
 -- how each input is cut, and its lines, or documents, are numbered
 abbrev pub numbering_in : Wanted → Numbering

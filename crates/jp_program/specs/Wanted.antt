@@ -11,6 +11,8 @@ use Rattle.jp_answer.specs.declared.on_fault.OnFault.{OnFault}
 use Rattle.jp_answer.specs.declared.on_fault.OnFault.TheVariants.{Stop, KeepGoing}
 use Rattle.jp_number.specs.declared.numbers.Numbers.{Numbers}
 use Rattle.jp_number.specs.declared.numbers.Numbers.TheVariants.{Whole, Decimals}
+use Rattle.jp_output.specs.declared.layout.Ending.{Ending}
+use Rattle.jp_output.specs.declared.layout.Ending.TheVariants.{LineFeed, Null}
 use Rattle.jp_run.specs.Settings.{AreSettings, IsFirst}
 use Rattle.jp_run.specs.declared.cutting.Cutting.{Cutting}
 use Rattle.jp_run.specs.declared.cutting.Cutting.TheVariants as cutting
@@ -20,9 +22,10 @@ use Rattle.jp_program.specs.CommandLine.{said, refusals, IsRefused}
 
 -- the query's text in scalar values, and that of a filter of documents, if there is one, the files by their
 -- names in bytes, whether lines are to name theirs, how each is cut into documents, whether what is asked is
--- only checked, what is written, which numbers documents, the query and the filter may have, what is done
--- where a line is faulty, whether faulty lines are to be explained, whether the status tells that
--- nothing was selected, the settings, and how many lines, or documents, stand before the first of each input
+-- only checked, what is written, what ends values, which numbers documents, the query and the filter may
+-- have, what is done where a line is faulty, whether faulty lines are to be explained, whether the status
+-- tells that nothing was selected, the settings, and how many lines, or documents, stand before the first of
+-- each input
 pub record Wanted : Type 0 where
   pub query : List ℕ
   pub filter : Option (List ℕ)
@@ -31,6 +34,7 @@ pub record Wanted : Type 0 where
   pub cutting : Cutting
   pub check : Bool
   pub output : Output
+  pub ending : Ending
   pub numbers : Numbers
   pub on_fault : OnFault
   pub explain : Bool
@@ -93,6 +97,29 @@ output_text Lines = codes "lines"
 abbrev pub SaysOutput : List Row → Output → Type 0
 SaysOutput rows output = first_of (codes "output") rows ≡ Some (output_text output)
 
+-- a form of values, each of which has an ending of its own
+abbrev pub is_of_values : Output → Bool
+is_of_values Nodes = false
+is_of_values Values = true
+is_of_values Texts = true
+is_of_values Raw = true
+is_of_values Lines = false
+
+-- U+0000 ends values, or a line feed does, by whether that option is there
+abbrev pub ends_with_null : Ending → Bool
+ends_with_null LineFeed = false
+ends_with_null Null = true
+
+-- a line feed goes with every form, and U+0000 with those of values alone
+abbrev pub GoesWith : Ending → Output → Type 0
+GoesWith LineFeed output = Unit {0}
+GoesWith Null output = is_of_values output ≡ true
+
+-- what ends values is this, and goes with the form
+abbrev pub SaysEnding : List Row → Output → Ending → Type 0
+SaysEnding rows output ending = SaysFlag (codes "null") rows (ends_with_null ending)
+    × GoesWith ending output
+
 -- no character of a file's name is a control character: U+0000 to U+001F, U+007F to U+009F
 abbrev pub IsName : Text → Type 0
 IsName name = All (λ c. is_control c ≡ false) (chars name)
@@ -125,6 +152,7 @@ pub record Says (rows : List Row) (w : Wanted) : Type 0 where
   pub cutting : SaysCutting rows w.cutting
   pub check : SaysFlag (codes "check") rows w.check
   pub output : SaysOutput rows w.output
+  pub ending : SaysEnding rows w.output w.ending
   pub numbers : SaysNumbers rows w.numbers
   pub on_fault : SaysOnFault rows w.on_fault
   pub explain : SaysFlag (codes "explain") rows w.explain
@@ -143,7 +171,7 @@ WantsCheck words w = Wants words w × (w.check ≡ true)
 abbrev pub WantsRun : List Text → Wanted → Type 0
 WantsRun words w = Wants words w × (w.check ≡ false)
 
--- the words are wrong, or a number is out of its range, or there is no such form, or a file's name has a
--- control character
+-- the words are wrong, or a number is out of its range, or there is no such form, or U+0000 is to end what
+-- is no value, or a file's name has a control character
 abbrev pub IsWrong : List Text → Type 0
 IsWrong words = IsRefused words ⊎ ((refusals words ≡ []) × ((w : Wanted) → Says (said words) w → ⊥))

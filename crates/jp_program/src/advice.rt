@@ -13,7 +13,7 @@ ghost use Rattle.jp_program.specs.Told.{IsExplained, IsTold, query_line};
 ghost use Rattle.jp_program.specs.Wanted.{Wanted as Wish, Wants};
 
 use crate::command::{note, note_text, tell};
-use crate::command_line::{Invocation, files_by, matches, output_by, read_words};
+use crate::command_line::{Invocation, ending_by, files_by, matches, output_by, read_words};
 use crate::file_notes::{RunEnd, tell_of_run};
 use crate::filter_advice::tell_filter_refusal;
 use crate::peer_options::first_own_way;
@@ -174,8 +174,11 @@ fn advice_by(
 
 /// Which value of words that are read is wrong.
 fn wrong_value(alloc: Global, matches: &ArgMatches<'_>) -> Result<&'static str, AllocError> {
-    if output_by(matches).is_none() {
+    let Some(output) = output_by(matches) else {
         return Ok("jp: --output takes nodes, values, texts, raw or lines");
+    };
+    if ending_by(matches, output).is_none() {
+        return Ok("jp: -0, --null goes with --output values, texts or raw");
     }
     if files_by(alloc, matches)?.is_none() {
         return Ok("jp: a file's name has a control character");

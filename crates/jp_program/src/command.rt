@@ -159,8 +159,8 @@ pub fn program<R: Threads + AllocGlobal + Sync, S: Source<K>, I: Inputs<S>, K: S
           contents = K.contents sink.old;
           contents_new = K.contents sink.new;
         })) }
-    // 64: the words are wrong, or a number is out of its range, or there is no such form, or a name is none,
-    // and nothing was opened, read or written.
+    // 64: the words are wrong, or a number is out of its range, or there is no such form, or U+0000 is to end
+    // what is no value, or a name is none, and nothing was opened, read or written.
     ensures command_line { result ≡ 64 → IsWrong (texts words.now)
         × (inputs.new ≡ inputs.old) × (source.new ≡ source.old) × (sink.new ≡ sink.old) }
     // A query or a filter that is refused ends with 2, or with 5 for want of memory, and nothing was opened,

@@ -5,6 +5,7 @@ ghost use Rattle.std.specs.Prelude.{List, codes};
 ghost use Rattle.std.specs.List.{All};
 ghost use Rattle.clap.specs.Walk.{Text, texts};
 ghost use Rattle.clap.specs.Words.{app_of, found_of, rows_of, rule_of, new_app, FailsBy};
+ghost use Rattle.jp_output.specs.declared.layout.Ending.{Ending as End};
 ghost use Rattle.jp_run.specs.declared.output.Output.{Output as Form};
 ghost use Rattle.jp_program.specs.CommandLine.{number_rule, flag_rule, letter_rule, query_rule, files_rule};
 ghost use Rattle.jp_program.specs.CommandLine.{filter_rule, output_rule, said, refusals, with_version};
@@ -14,14 +15,15 @@ ghost use Rattle.jp_program.specs.CommandLine.{with_flags as flags_of, with_quer
 ghost use Rattle.jp_program.specs.inner.Invocation.{IsAsked, IsNotAsked, wanted_of};
 ghost use Rattle.jp_program.specs.Wanted.{Wanted as Wish, Says, SaysNumber, SaysFlag, SaysOutput, AreSaid};
 ghost use Rattle.jp_program.specs.Wanted.{IsName, SaysFiles, SaysNames, cuts_documents, has_decimals};
-ghost use Rattle.jp_program.specs.Wanted.{keeps_going};
+ghost use Rattle.jp_program.specs.Wanted.{SaysEnding, ends_with_null, keeps_going};
 
-use crate::output::output_of;
+use crate::output::{is_of_values, output_of};
 use crate::version::VERSION;
 use clap::error::ErrorKind;
 use clap::{Arg, ArgAction, ArgMatches, Command, Error, value_parser};
 use jp_answer::OnFault;
 use jp_number::Numbers;
+use jp_output::Ending;
 use jp_run::{Cutting, Output, RunFault, Settings};
 use std::alloc::{AllocError, Global};
 
@@ -32,6 +34,7 @@ Examples:
   jp --where '@.level==\"error\"' '$.msg' < app.log
   jp --output lines '$[?$.level==\"error\"]' app.log
   jp --output texts '$.msg' < app.log
+  jp -0 --output raw '$.path' < files.jsonl | xargs -0 ls -l
   jp -d --documents '$.service.port' service.json
   jp -de --documents '$.service.user' service.json
   jp --workers 8 '$.items[?@.count > 10]' < orders.jsonl
@@ -51,7 +54,8 @@ Where two FILEs or more are named, or with --with-filename, the name of the file
 stands before it: then cut -f4 does. --output values gives the value alone;
 texts the same, but a text without its quotes; raw a text as it stands, line
 feeds and all; lines each line, or document, once, in which a node is selected.
-None of these names its file.
+None of these names its file. With -0 values, texts and raw texts end with
+U+0000, which xargs -0 and sort -z take, and not with a line feed.
 
 FILTER is what may stand behind ? in $[?FILTER]: both @ and $ are the document.
 A QUERY that begins with - is given behind --. It may call two of our own:
@@ -177,7 +181,7 @@ fn with_numbers<'a>(alloc: Global, command: Command<'a>) -> Result<Command<'a>, 
 
 /// The command, with the options that are there or not: whether the query is only checked, which numbers are
 /// read, whether faulty lines are passed, whether they are to be explained, whether the status tells that
-/// nothing was selected, whether documents go over lines, and whether lines name their file.
+/// nothing was selected, whether documents go over lines, whether lines name their file, and what ends values.
 fn with_flags<'a>(alloc: Global, command: Command<'a>) -> Result<Command<'a>, AllocError>
     ensures { IfOk result (λ r. app_of r ≡ flags_of (app_of command.entry)) }
 {
@@ -188,13 +192,15 @@ fn with_flags<'a>(alloc: Global, command: Command<'a>) -> Result<Command<'a>, Al
     let exit_status = "End with 1 where nothing was selected";
     let documents = "Read documents over any number of lines";
     let with_filename = "Begin each line with the name of its file";
+    let null = "End each value with U+0000, not a line feed";
     let command = command.arg(flag(alloc, "check", check))?;
     let command = command.arg(lettered(alloc, "decimals", 'd', decimals))?;
     let command = command.arg(lettered(alloc, "keep-going", 'k', keep_going))?;
     let command = command.arg(flag(alloc, "explain", explain))?;
     let command = command.arg(lettered(alloc, "exit-status", 'e', exit_status))?;
     let command = command.arg(flag(alloc, "documents", documents))?;
-    command.arg(flag(alloc, "with-filename", with_filename))
+    let command = command.arg(flag(alloc, "with-filename", with_filename))?;
+    command.arg(lettered(alloc, "null", '0', null))
 }
 
 /// The command, with the query, and the files behind it.
@@ -284,7 +290,7 @@ fn files<'a>(alloc: Global) -> Arg<'a>
 }
 
 /// The query, and what is to be done with it; none where a number is out of its range, or there is no such
-/// form, or a file's name has a control character.
+/// form, or U+0000 is to end what is no value, or a file's name has a control character.
 fn wanted_by<'a>(alloc: Global, matches: &ArgMatches<'a>) -> Result<Option<Wanted<'a>>, AllocError>
     ensures some { IfOk result (λ o. IfSome o (λ w. Says (rows_of (found_of matches.now)) (wanted_of w))) }
     ensures none { IfOk result (λ o. IsNone o
@@ -305,6 +311,7 @@ fn wanted_of_files<'a>(matches: &ArgMatches<'a>, files: Vec<&'a str>) -> Option<
     let query = matches.get_str("query")?;
     let names = names_by(matches, &files)?;
     let output = output_by(matches)?;
+    let ending = ending_by(matches, output)?;
     let check = flag_by(matches, "check")?;
     let decimals = flag_by(matches, "decimals")?;
     let keep_going = flag_by(matches, "keep-going")?;
@@ -325,7 +332,9 @@ fn wanted_of_files<'a>(matches: &ArgMatches<'a>, files: Vec<&'a str>) -> Option<
         check,
         explain,
         exit_status,
-        settings: settings.with_filter(matches.get_str("where")),
+        settings: settings
+            .with_ending(ending)
+            .with_filter(matches.get_str("where")),
     })
 }
 
@@ -497,6 +506,25 @@ pub(crate) fn output_by(matches: &ArgMatches<'_>) -> Option<Output>
 {
     let word = matches.get_str("output")?;
     output_of(word)
+}
+
+/// What ends values; none where that is not said, or U+0000 is to end what is no value.
+pub(crate) fn ending_by(matches: &ArgMatches<'_>, output: Output) -> Option<Ending>
+    ensures some { IfSome result (SaysEnding (rows_of (found_of matches.now)) output) }
+    ensures none { IsNone result → (e : End) → SaysEnding (rows_of (found_of matches.now)) output e → ⊥ }
+{
+    let null = flag_by(matches, "null")?;
+    if null && !is_of_values(output) {
+        return None;
+    }
+    Some(ending_of(null))
+}
+
+/// What ends values, by whether that is U+0000.
+fn ending_of(null: bool) -> Ending
+    ensures { null ≡ ends_with_null result }
+{
+    if null { Ending::Null } else { Ending::LineFeed }
 }
 
 /// The number that is said of an option; none where it is none of 64 bits.

@@ -3,6 +3,7 @@
 ghost use Rattle.std.specs.Prelude.{◌≡◌, [], ◌∷◌, true, false, codes};
 ghost use Rattle.jp_answer.specs.declared.on_fault.OnFault.TheVariants.{Stop, KeepGoing};
 ghost use Rattle.jp_number.specs.declared.numbers.Numbers.TheVariants.{Whole, Decimals};
+ghost use Rattle.jp_output.specs.declared.layout.Ending.TheVariants.{LineFeed, Null};
 ghost use Rattle.jp_run.specs.declared.cutting.Cutting.TheVariants as Cutting;
 ghost use Rattle.jp_run.specs.declared.output.Output.TheVariants.{Nodes, Texts, Lines};
 ghost use Rattle.jp_program.specs.CommandLine.{AsksToShow, IsRefused};
@@ -14,7 +15,7 @@ fn all_options()
     ensures { Wants (codes "jp" ∷ codes "--workers" ∷ codes "8" ∷ codes "--piece=2" ∷ codes "--batch"
         ∷ codes "+10" ∷ codes "--check" ∷ codes "--decimals" ∷ codes "--keep-going" ∷ codes "--explain"
         ∷ codes "--exit-status" ∷ codes "--output=texts" ∷ codes "--documents" ∷ codes "--with-filename"
-        ∷ codes "--first=7" ∷ codes "--" ∷ codes "-q" ∷ []) (record {
+        ∷ codes "--first=7" ∷ codes "--null" ∷ codes "--" ∷ codes "-q" ∷ []) (record {
           query = codes "-q";
           filter = None;
           files = [];
@@ -22,6 +23,7 @@ fn all_options()
           cutting = Cutting.Documents;
           check = true;
           output = Texts;
+          ending = Null;
           numbers = Decimals;
           on_fault = KeepGoing;
           explain = true;
@@ -35,7 +37,7 @@ fn all_options()
 
 /// The options that have a letter, together and apart.
 fn letters()
-    ensures { Wants (codes "jp" ∷ codes "-kde" ∷ codes "-o" ∷ codes "texts" ∷ codes "$" ∷ []) (record {
+    ensures { Wants (codes "jp" ∷ codes "-kde0" ∷ codes "-o" ∷ codes "texts" ∷ codes "$" ∷ []) (record {
       query = codes "$";
       filter = None;
       files = [];
@@ -43,6 +45,7 @@ fn letters()
       cutting = Cutting.Lines;
       check = false;
       output = Texts;
+      ending = Null;
       numbers = Decimals;
       on_fault = KeepGoing;
       explain = false;
@@ -64,6 +67,7 @@ fn one_file()
       cutting = Cutting.Lines;
       check = false;
       output = Nodes;
+      ending = LineFeed;
       numbers = Whole;
       on_fault = Stop;
       explain = false;
@@ -81,6 +85,7 @@ fn one_file()
       cutting = Cutting.Lines;
       check = false;
       output = Nodes;
+      ending = LineFeed;
       numbers = Whole;
       on_fault = Stop;
       explain = false;
@@ -102,6 +107,7 @@ fn two_files()
       cutting = Cutting.Lines;
       check = false;
       output = Nodes;
+      ending = LineFeed;
       numbers = Whole;
       on_fault = Stop;
       explain = false;
@@ -123,6 +129,7 @@ fn files()
       cutting = Cutting.Lines;
       check = false;
       output = Nodes;
+      ending = LineFeed;
       numbers = Whole;
       on_fault = Stop;
       explain = false;
@@ -145,6 +152,7 @@ fn options_between_files()
           cutting = Cutting.Lines;
           check = false;
           output = Lines;
+          ending = LineFeed;
           numbers = Whole;
           on_fault = KeepGoing;
           explain = false;
@@ -173,13 +181,17 @@ fn wrong_words()
     ensures twice { IsRefused (codes "jp" ∷ codes "--check" ∷ codes "--check" ∷ codes "$" ∷ []) }
 {}
 
-/// A number past its range, a form that there is not, and a file's name with a line feed.
+/// A number past its range, a form that there is not, U+0000 behind what is no value, and a file's name with a
+/// line feed.
 fn out_of_range()
     ensures workers { IsWrong (codes "jp" ∷ codes "--workers" ∷ codes "65" ∷ codes "$" ∷ []) }
     ensures first { IsWrong (codes "jp" ∷ codes "--first" ∷ codes "0" ∷ codes "$" ∷ []) }
     ensures first_above { IsWrong (codes "jp" ∷ codes "--first" ∷ codes "4294967296" ∷ codes "$" ∷ []) }
     ensures form { IsWrong (codes "jp" ∷ codes "--output" ∷ codes "csv" ∷ codes "$" ∷ []) }
     ensures letters { IsWrong (codes "jp" ∷ codes "--output=Nodes" ∷ codes "$" ∷ []) }
+    ensures null_behind_nodes { IsWrong (codes "jp" ∷ codes "-0" ∷ codes "$" ∷ []) }
+    ensures null_behind_lines { IsWrong (codes "jp" ∷ codes "--null" ∷ codes "-o" ∷ codes "lines" ∷ codes "$"
+        ∷ []) }
     ensures name { IsWrong (codes "jp" ∷ codes "$" ∷ codes "x\n" ∷ []) }
 {}
 

@@ -12,6 +12,7 @@ ghost use Rattle.jp_answer.specs.Policy.{policy};
 ghost use Rattle.jp_answer.specs.declared.on_fault.OnFault.TheVariants.{Stop, KeepGoing};
 ghost use Rattle.jp_number.specs.declared.numbers.Numbers.TheVariants.{Whole};
 ghost use Rattle.jp_output.specs.Fields.{IsFieldName};
+ghost use Rattle.jp_output.specs.declared.layout.Ending.TheVariants.{LineFeed};
 ghost use Rattle.jp_run.specs.AskedTexts.{AreAcceptedIn};
 ghost use Rattle.jp_run.specs.Cutting.{documents};
 ghost use Rattle.jp_run.specs.declared.cutting.Cutting.TheVariants as Cutting;
@@ -34,6 +35,7 @@ pub fn query_alone()
       cutting = Cutting.Lines;
       check = false;
       output = Nodes;
+      ending = LineFeed;
       numbers = Whole;
       on_fault = Stop;
       explain = false;
@@ -46,8 +48,8 @@ pub fn query_alone()
 {}
 
 /// Words want one thing: one query, files in one order, with their names or without, one way of cutting them,
-/// a check of it or a run, one form of the answer, one choice of numbers, of what a faulty line does and of
-/// what the status tells, and one of settings.
+/// a check of it or a run, one form of the answer, one ending of values, one choice of numbers, of what a
+/// faulty line does and of what the status tells, and one of settings.
 pub fn one_wish()
     ensures { (words : List (List ℕ)) (v w : Wanted) → Wants words v → Wants words w → v ≡ w }
 {}

@@ -1,8 +1,8 @@
-//! The words for the forms of an answer.
+//! The words for the forms of an answer, and which of them are forms of values.
 
 ghost use Rattle.std.specs.Prelude.{◌≡◌, IfSome, IsNone};
 ghost use Rattle.jp_run.specs.declared.output.Output.{Output as Form};
-ghost use Rattle.jp_program.specs.Wanted.{output_text};
+ghost use Rattle.jp_program.specs.Wanted.{is_of_values, output_text};
 
 use jp_run::Output;
 
@@ -18,5 +18,15 @@ pub(crate) fn output_of(word: &str) -> Option<Output>
         "raw" => Some(Output::Raw),
         "lines" => Some(Output::Lines),
         _ => None,
+    }
+}
+
+/// Whether a form is one of values, each of which has an ending of its own.
+pub(crate) fn is_of_values(output: Output) -> bool
+    ensures { result ≡ is_of_values output }
+{
+    match output {
+        Output::Values | Output::Texts | Output::Raw => true,
+        Output::Nodes | Output::Lines => false,
     }
 }

@@ -15,7 +15,8 @@ pub(crate) fn own_way(option: &str) -> Option<&'static str> {
         }
         "-H" => Some("the names of the files in front: --with-filename"),
         "--no-filename" => Some("without the names of the files: .. | cut -f2-"),
-        "-z" | "--null-data" => Some("a compressed file: zcat FILE | jp QUERY"),
+        "-z" | "--search-zip" => Some("a compressed file: zcat FILE | jp QUERY"),
+        "-Z" | "--null-data" | "--raw-output0" => Some("values ended by U+0000: -0 -o raw"),
         "-f" | "--from-file" => Some("a query out of a file: jp \"$(cat FILE)\""),
         "-v" | "--invert-match" => Some(
             "documents that a filter is not true of: --where '!(FILTER)'",

@@ -16,6 +16,7 @@ use Rattle.jp_answer.specs.Blocks.{IsAnswerTo}
 use Rattle.jp_answer.specs.declared.outcome.Outcome.{Outcome}
 use Rattle.jp_answer.specs.declared.policy.LinePolicy.{LinePolicy}
 use Rattle.jp_output.specs.OutputForm.{OutputForm}
+use Rattle.jp_output.specs.declared.layout.Layout.{Layout}
 use Rattle.jp_answer.proofs.OnFaults.{formed_joined, nothing_in}
 use Rattle.jp_run.specs.Manner.{Manner}
 use Rattle.jp_run.specs.declared.fault.RunFault.{RunFault}
@@ -205,11 +206,11 @@ module _ (going : Manner) (q : FilteredQuery) where
     pub handing_done : whole.stopped ≡ None → Appends a b whole.bytes → Handed going q ls None a b
     handing_done h k = record { whole = whole; is = is; stopped = h; appended = k }
 
--- the answer behind a head, by a policy, and to a query, that are the same
-pub in_manner : (form : List ℕ → OutputForm) (before behind : List ℕ) (done meant : LinePolicy)
-    (q r : FilteredQuery) (ls : List Line) (a : Outcome) → before ≡ behind → done ≡ meant → q ≡ r
-    → IsAnswerTo (form before) done q ls a → IsAnswerTo (form behind) meant r ls a
-in_manner form before behind done meant q r ls a d e f h =
-    subst (λ (b : List ℕ). IsAnswerTo (form b) meant r ls a) d
-    (subst (λ (k : LinePolicy). IsAnswerTo (form before) k r ls a) e
-    (subst (λ (x : FilteredQuery). IsAnswerTo (form before) done x ls a) f h))
+-- the answer in a layout, by a policy, and to a query, that are the same
+pub in_manner : (form : Layout → OutputForm) (laid wanted : Layout) (done meant : LinePolicy)
+    (q r : FilteredQuery) (ls : List Line) (a : Outcome) → laid ≡ wanted → done ≡ meant → q ≡ r
+    → IsAnswerTo (form laid) done q ls a → IsAnswerTo (form wanted) meant r ls a
+in_manner form laid wanted done meant q r ls a d e f h =
+    subst (λ (b : Layout). IsAnswerTo (form b) meant r ls a) d
+    (subst (λ (k : LinePolicy). IsAnswerTo (form laid) k r ls a) e
+    (subst (λ (x : FilteredQuery). IsAnswerTo (form laid) done x ls a) f h))

@@ -14,7 +14,7 @@ use Rattle.jp_answer.specs.FilteredQuery.{FilteredQuery}
 use Rattle.jp_run.specs.AskedTexts.{AskedTexts, AreAcceptedIn}
 use Rattle.jp_run.specs.Forms.{form_of}
 use Rattle.jp_run.specs.Manner.{Manner, manner}
-use Rattle.jp_run.specs.Answered.{IsAnswerBy, head_of, manner_of, numbering_of}
+use Rattle.jp_run.specs.Answered.{IsAnswerBy, layout_of, manner_of, numbering_of}
 use Rattle.jp_run.specs.Cutting.{documents}
 use Rattle.jp_answer.specs.Policy.{policy}
 use Rattle.jp_answer.specs.declared.on_fault.OnFault.{OnFault}
@@ -146,11 +146,11 @@ module _ (going : Manner) (asked : AskedTexts) (q : FilteredQuery)
 -- what is done in a form is done by the settings that name it
 pub ran_in : {R G S K : Type 0} {source : supply.Ghosts S} {k : sink.Ghosts K} {job : Job R G} {a b : S}
     {u w : K} {r : Result Totals RunFault} (named : Output) → job.settings.output ≡ named
-    → HasRun (manner (numbering_of job.settings) (form_of named (head_of job.settings))
+    → HasRun (manner (numbering_of job.settings) (form_of named (layout_of job.settings))
     (policy job.settings.numbers job.settings.on_fault)) source k job a b u w r
     → HasRun (manner_of job.settings) source k job a b u w r
 ran_in {source = source} {k = k} {job = job} {a = a} {b = b} {u = u} {w = w} {r = r} named is =
-    subst (λ (o : Output). HasRun (manner (numbering_of job.settings) (form_of o (head_of job.settings))
+    subst (λ (o : Output). HasRun (manner (numbering_of job.settings) (form_of o (layout_of job.settings))
     (policy job.settings.numbers job.settings.on_fault)) source k job a b u w r) (sym is)
 
 -- a run that a fault has ended

@@ -10,7 +10,8 @@ use Rattle.jp_doc.specs.ReadingIn.{reading_in}
 use Rattle.jp_doc.specs.declared.fault.DocFault.{DocFault}
 use Rattle.jp_answer.specs.FilteredQuery.{FilteredQuery, selected_nodes}
 use Rattle.jp_pattern.specs.Tests.{Tests}
-use Rattle.jp_output.specs.OutputLine.{line_of, node_line, value_text}
+use Rattle.jp_output.specs.Layouts.{ending_byte}
+use Rattle.jp_output.specs.OutputLine.{ended_by, node_line, value_text}
 use Rattle.jp_output.specs.RawText.{raw_text}
 use Rattle.jp_output.specs.UnquotedText.{unquoted_text}
 use Rattle.jp_answer.specs.Answer.{Answer, document_bytes, joined}
@@ -18,6 +19,7 @@ use Rattle.jp_answer.specs.Faults.{fault_or, first_fault}
 use Rattle.jp_answer.specs.declared.on_fault.OnFault.{OnFault}
 use Rattle.jp_answer.specs.declared.on_fault.OnFault.TheVariants.{Stop, KeepGoing}
 use Rattle.jp_answer.proofs.Joining.{answer_on, cons_on, line_answer, none_on}
+use Rattle.jp_output.specs.declared.layout.Layout.{Layout}
 use Rattle.jp_run.specs.Forms.{form_of}
 use Rattle.jp_run.specs.Selecting.{SelectsNothing}
 use Rattle.jp_run.specs.declared.output.Output.{Output}
@@ -36,30 +38,32 @@ back_none [] ys e = e
 back_none (x ∷ xs) ys e = absurd (cc)
 
 -- each form says something of a document exactly where a node is selected
-says_nothing : (o : Output) (head : List ℕ) (l : Line) → (form_of o head).of_document l [] ≡ []
-says_nothing Nodes head l = refl
-says_nothing Values head l = refl
-says_nothing Texts head l = refl
-says_nothing Raw head l = refl
-says_nothing Lines head l = refl
+says_nothing : (o : Output) (layout : Layout) (l : Line) → (form_of o layout).of_document l [] ≡ []
+says_nothing Nodes layout l = refl
+says_nothing Values layout l = refl
+says_nothing Texts layout l = refl
+says_nothing Raw layout l = refl
+says_nothing Lines layout l = refl
 
-lines_some : (text : Json → List ℕ) (ns : List Node) → flat_map (line_of text) ns ≡ [] → ns ≡ []
-lines_some text [] e = refl
-lines_some text (n ∷ ns) e =
-    absurd (has_byte (text n.value) [] 10 (front_none (line_of text n) (flat_map (line_of text) ns) e))
+values_some : (ending : ℕ) (text : Json → List ℕ) (ns : List Node)
+    → flat_map (ended_by ending text) ns ≡ [] → ns ≡ []
+values_some ending text [] e = refl
+values_some ending text (n ∷ ns) e =
+    absurd (has_byte (text n.value) [] ending
+    (front_none (ended_by ending text n) (flat_map (ended_by ending text) ns) e))
 
-nothing_said : (o : Output) (head : List ℕ) (l : Line) (ns : List Node)
-    → (form_of o head).of_document l ns ≡ [] → ns ≡ []
-nothing_said Nodes head l [] e = refl
-nothing_said Nodes head l (n ∷ ns) e =
-    let rest = flat_map (λ (m : Node). head ++ node_line l.0 m) ns in
+nothing_said : (o : Output) (layout : Layout) (l : Line) (ns : List Node)
+    → (form_of o layout).of_document l ns ≡ [] → ns ≡ []
+nothing_said Nodes layout l [] e = refl
+nothing_said Nodes layout l (n ∷ ns) e =
+    let rest = flat_map (λ (m : Node). layout.head ++ node_line l.0 m) ns in
     absurd (has_byte (decimal l.0) _ 9
-    (back_none head (node_line l.0 n) (front_none (head ++ node_line l.0 n) rest e)))
-nothing_said Values head l ns e = lines_some value_text ns e
-nothing_said Texts head l ns e = lines_some unquoted_text ns e
-nothing_said Raw head l ns e = lines_some raw_text ns e
-nothing_said Lines head l [] e = refl
-nothing_said Lines head l (n ∷ ns) e = absurd (has_byte l.1 [] 10 e)
+    (back_none layout.head (node_line l.0 n) (front_none (layout.head ++ node_line l.0 n) rest e)))
+nothing_said Values layout l ns e = values_some (ending_byte layout.ending) value_text ns e
+nothing_said Texts layout l ns e = values_some (ending_byte layout.ending) unquoted_text ns e
+nothing_said Raw layout l ns e = values_some (ending_byte layout.ending) raw_text ns e
+nothing_said Lines layout l [] e = refl
+nothing_said Lines layout l (n ∷ ns) e = absurd (has_byte l.1 [] 10 e)
 
 rest_none : (number : ℕ) (r : Result Json DocFault) (o : Option (ℕ × DocFault)) → fault_or number r o ≡ None
     → o ≡ None
@@ -71,45 +75,45 @@ read_here : (number : ℕ) (r : Result Json DocFault) (o : Option (ℕ × DocFau
 read_here number (Ok root) o h = (root, refl)
 read_here number (Err f) o h = absurd (cc)
 
-module _ (o : Output) (head : List ℕ) (n : Numbers) (t : Tests) (q : FilteredQuery) where
-  no_lines : (k : OnFault) → (answer_on n (form_of o head) t q k []).bytes ≡ []
-  no_lines k = ap (λ (a : Answer). a.bytes) (none_on n (form_of o head) t q k)
+module _ (o : Output) (layout : Layout) (n : Numbers) (t : Tests) (q : FilteredQuery) where
+  no_lines : (k : OnFault) → (answer_on n (form_of o layout) t q k []).bytes ≡ []
+  no_lines k = ap (λ (a : Answer). a.bytes) (none_on n (form_of o layout) t q k)
 
   said_first : (k : OnFault) (l : Line) (root : Json) (a : Answer)
-      → (joined (line_answer (form_of o head) t q k l (Ok root)) a).bytes
-      ≡ document_bytes (form_of o head) t q l root ++ a.bytes
+      → (joined (line_answer (form_of o layout) t q k l (Ok root)) a).bytes
+      ≡ document_bytes (form_of o layout) t q l root ++ a.bytes
   said_first Stop l root a = refl
   said_first KeepGoing l root a = refl
 
   bytes_first : (k : OnFault) (l : Line) (ls : List Line) (root : Json) → reading_in n l.1 ≡ Ok root
-      → (answer_on n (form_of o head) t q k (l ∷ ls)).bytes
-      ≡ document_bytes (form_of o head) t q l root ++ (answer_on n (form_of o head) t q k ls).bytes
+      → (answer_on n (form_of o layout) t q k (l ∷ ls)).bytes
+      ≡ document_bytes (form_of o layout) t q l root ++ (answer_on n (form_of o layout) t q k ls).bytes
   bytes_first k l ls root is =
-      let later : Answer = answer_on n (form_of o head) t q k ls in
-      ap (λ (a : Answer). a.bytes) (cons_on n (form_of o head) t q k l ls)
-      ∙ ap (λ r. (joined (line_answer (form_of o head) t q k l r) later).bytes) is
+      let later : Answer = answer_on n (form_of o layout) t q k ls in
+      ap (λ (a : Answer). a.bytes) (cons_on n (form_of o layout) t q k l ls)
+      ∙ ap (λ r. (joined (line_answer (form_of o layout) t q k l r) later).bytes) is
       ∙ said_first k l root later
 
   abbrev Nothing : Line → Type 0
   Nothing l = IfOk (reading_in n l.1) (λ root. selected_nodes t root q ≡ [])
 
   pub nothing_so : (k : OnFault) (ls : List Line) → first_fault n ls ≡ None
-      → (answer_on n (form_of o head) t q k ls).bytes ≡ [] → SelectsNothing n t q ls
+      → (answer_on n (form_of o layout) t q k ls).bytes ≡ [] → SelectsNothing n t q ls
   nothing_so k [] h e = All-nil Nothing
   nothing_so k (l ∷ ls) h e =
       let (root, is) = read_here l.0 (reading_in n l.1) (first_fault n ls) h in
       let both = sym (bytes_first k l ls root is) ∙ e in
       All-cons Nothing l ls
       (subst (λ (r : Result Json DocFault). IfOk r (λ root. selected_nodes t root q ≡ [])) (sym is)
-      (nothing_said o head l (selected_nodes t root q)
-      (front_none (document_bytes (form_of o head) t q l root)
-      (answer_on n (form_of o head) t q k ls).bytes both)))
+      (nothing_said o layout l (selected_nodes t root q)
+      (front_none (document_bytes (form_of o layout) t q l root)
+      (answer_on n (form_of o layout) t q k ls).bytes both)))
       (nothing_so k ls (rest_none l.0 (reading_in n l.1) (first_fault n ls) h)
-      (back_none (document_bytes (form_of o head) t q l root)
-      (answer_on n (form_of o head) t q k ls).bytes both))
+      (back_none (document_bytes (form_of o layout) t q l root)
+      (answer_on n (form_of o layout) t q k ls).bytes both))
 
   pub nothing_written : (k : OnFault) (ls : List Line) → first_fault n ls ≡ None → SelectsNothing n t q ls
-      → (answer_on n (form_of o head) t q k ls).bytes ≡ []
+      → (answer_on n (form_of o layout) t q k ls).bytes ≡ []
   nothing_written k [] h all = no_lines k
   nothing_written k (l ∷ ls) h all =
       let (root, is) = read_here l.0 (reading_in n l.1) (first_fault n ls) h in
@@ -117,7 +121,7 @@ module _ (o : Output) (head : List ℕ) (n : Numbers) (t : Tests) (q : FilteredQ
       subst (λ (r : Result Json DocFault). IfOk r (λ root. selected_nodes t root q ≡ [])) is
       (All-head Nothing l ls all) in
       bytes_first k l ls root is
-      ∙ ap (λ ns. (form_of o head).of_document l ns ++ (answer_on n (form_of o head) t q k ls).bytes) none
-      ∙ ap (λ bs. bs ++ (answer_on n (form_of o head) t q k ls).bytes) (says_nothing o head l)
+      ∙ ap (λ ns. (form_of o layout).of_document l ns ++ (answer_on n (form_of o layout) t q k ls).bytes) none
+      ∙ ap (λ bs. bs ++ (answer_on n (form_of o layout) t q k ls).bytes) (says_nothing o layout l)
       ∙ nothing_written k ls (rest_none l.0 (reading_in n l.1) (first_fault n ls) h)
       (All-tail Nothing l ls all)

@@ -7,7 +7,9 @@ use Rattle.jp_pattern.specs.Tests.{Tests, AreRight}
 use Rattle.jp_check.specs.Verdict.{IsAccepted}
 use Rattle.jp_answer.specs.Answer.{Answer, answer_by, stream_answer}
 use Rattle.jp_answer.specs.FilteredQuery.{FilteredQuery}
+use Rattle.jp_output.specs.Layouts.{laid_out}
 use Rattle.jp_output.specs.OutputForm.{OutputForm}
+use Rattle.jp_output.specs.declared.layout.Layout.{Layout}
 use Rattle.jp_answer.specs.Policy.{policy, passed_in as lines_passed}
 use Rattle.jp_run.specs.AskedTexts.{AskedTexts, AreAcceptedIn}
 use Rattle.jp_run.specs.Cutting.{Numbering, documents}
@@ -25,16 +27,20 @@ head_behind (Some name) = name ++ 9 ∷ []
 abbrev pub head_of : Settings → List ℕ
 head_of s = head_behind (option_map (λ name. name.now) s.name)
 
+-- and what stands behind each value besides
+abbrev pub layout_of : Settings → Layout
+layout_of s = laid_out (head_of s) s.ending
+
 -- how input is cut and numbered by the settings
 abbrev pub numbering_of : Settings → Numbering
 numbering_of s = record { cutting = s.cutting; before = s.before }
 
 -- by the settings, in their form and in some form
 abbrev pub manner_of : Settings → Manner
-manner_of s = manner (numbering_of s) (form_of s.output (head_of s)) (policy s.numbers s.on_fault)
+manner_of s = manner (numbering_of s) (form_of s.output (layout_of s)) (policy s.numbers s.on_fault)
 
-abbrev pub manner_in : (List ℕ → OutputForm) → Settings → Manner
-manner_in form s = manner (numbering_of s) (form (head_of s)) (policy s.numbers s.on_fault)
+abbrev pub manner_in : (Layout → OutputForm) → Settings → Manner
+manner_in form s = manner (numbering_of s) (form (layout_of s)) (policy s.numbers s.on_fault)
 
 -- how many faulty lines the answer passes
 abbrev pub passed_in : Settings → List Line → ℕ

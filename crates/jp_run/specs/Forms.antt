@@ -1,14 +1,17 @@
 -- The forms of an answer, as a run's settings name them.
-use Rattle.std.specs.Prelude.{ℕ, List}
-use Rattle.jp_output.specs.OutputForm.{OutputForm, node_lines_behind, value_lines, text_lines}
-use Rattle.jp_output.specs.OutputForm.{raw_lines, input_lines}
+use Rattle.jp_output.specs.Layouts.{ending_byte}
+use Rattle.jp_output.specs.OutputForm.{OutputForm, node_lines_behind, values_ended_by, input_lines}
+use Rattle.jp_output.specs.OutputLine.{value_text}
+use Rattle.jp_output.specs.RawText.{raw_text}
+use Rattle.jp_output.specs.UnquotedText.{unquoted_text}
+use Rattle.jp_output.specs.declared.layout.Layout.{Layout}
 use Rattle.jp_run.specs.declared.output.Output.{Output}
 use Rattle.jp_run.specs.declared.output.Output.TheVariants.{Nodes, Values, Texts, Raw, Lines}
 
--- where its lines have a head, each stands behind these bytes
-abbrev pub form_of : Output → List ℕ → OutputForm
-form_of Nodes head = node_lines_behind head
-form_of Values head = value_lines
-form_of Texts head = text_lines
-form_of Raw head = raw_lines
-form_of Lines head = input_lines
+-- lines of nodes stand behind the head, and the ending stands behind values
+abbrev pub form_of : Output → Layout → OutputForm
+form_of Nodes layout = node_lines_behind layout.head
+form_of Values layout = values_ended_by (ending_byte layout.ending) value_text
+form_of Texts layout = values_ended_by (ending_byte layout.ending) unquoted_text
+form_of Raw layout = values_ended_by (ending_byte layout.ending) raw_text
+form_of Lines layout = input_lines

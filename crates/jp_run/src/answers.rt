@@ -22,7 +22,7 @@ use jp_check::Plan;
 use jp_compiled::CompiledQuery;
 use jp_doc::Line;
 use jp_number::Numbers;
-use jp_output::{Head, NodeLines, join_chunks};
+use jp_output::{Layout, NodeLines, join_chunks};
 use std::alloc::Global;
 use std::thread::Threads;
 
@@ -53,8 +53,8 @@ pub fn answer<R: Threads + Sync, G: Gate + Sync>(
     ensures fault { OnErr result (IsErrOf result RunFault.Memory) }
 {
     let crew = Crew { rt, alloc, gate };
-    let head = Head::none();
-    let asked = asked_of(plan.compiled(), &head, OnFault::Stop, workers);
+    let layout = Layout::plain();
+    let asked = asked_of(plan.compiled(), &layout, OnFault::Stop, workers);
     let lines = refs_of(alloc, lines)?;
     let answer = answer_by_workers::<R, G, NodeLines>(&crew, asked, &lines, piece)?;
     Ok(Answer {
@@ -90,8 +90,8 @@ pub fn answer_all<R: Threads + Sync, G: Gate + Sync>(
     ensures fault { OnErr result (IsErrOf result RunFault.Memory) }
 {
     let crew = Crew { rt, alloc, gate };
-    let head = Head::none();
-    let asked = asked_of(plan.compiled(), &head, OnFault::KeepGoing, workers);
+    let layout = Layout::plain();
+    let asked = asked_of(plan.compiled(), &layout, OnFault::KeepGoing, workers);
     let lines = refs_of(alloc, lines)?;
     let answer = answer_by_workers::<R, G, NodeLines>(&crew, asked, &lines, piece)?;
     Ok(Whole {
@@ -103,19 +103,19 @@ pub fn answer_all<R: Threads + Sync, G: Gate + Sync>(
 /// What is asked of lines whose numbers are whole: a query of every document.
 fn asked_of<'q>(
     query: &'q CompiledQuery,
-    head: &'q Head,
+    layout: &'q Layout,
     on_fault: OnFault,
     workers: u64,
 ) -> Asked<'q>
     requires { AreWorkers workers }
     ensures query { asked_query result ≡ unfiltered (compiled_query query.now) }
-    ensures head { result.head.now ≡ head.now }
+    ensures layout { result.layout.now ≡ layout.now }
     ensures policy { result.policy ≡ policy Integers on_fault }
 {
     Asked {
         query,
         filter: None,
-        head,
+        layout,
         policy: LinePolicy {
             numbers: Numbers::Whole,
             on_fault,

@@ -8,7 +8,10 @@ ghost use Rattle.jp_doc.specs.declared.fault.DocFault.{DocFault};
 ghost use Rattle.jp_documents.specs.Documents as over_lines;
 ghost use Rattle.jp_tree.specs.Tree.{Text};
 ghost use Rattle.jp_pattern.specs.Tests.{Tests, AreRight};
+ghost use Rattle.jp_output.specs.Layouts.{laid_out};
 ghost use Rattle.jp_output.specs.OutputForm.{node_lines};
+ghost use Rattle.jp_output.specs.declared.layout.Ending.{Ending};
+ghost use Rattle.jp_output.specs.declared.layout.Layout.{Layout};
 ghost use Rattle.jp_answer.specs.Answer.{Answer, answer_by};
 ghost use Rattle.jp_answer.specs.Faults.{first_fault};
 ghost use Rattle.jp_answer.specs.FilteredQuery.{FilteredQuery};
@@ -29,32 +32,33 @@ ghost use Rattle.jp_run.specs.declared.output.Output.TheVariants.{Nodes};
 /// output lines, whether or not it keeps going, and whichever numbers it has; and where numbers are whole and
 /// it does not keep going, the answer that ends at the first faulty line.
 pub fn forms()
-    ensures stops { (text : Text) (input : List ℕ) (a : Answer)
-        → IsAnswerBy (manner (from_one Lines) (form_of Nodes []) (policy Whole Stop)) (query_alone text)
-        input a
+    ensures stops { (text : Text) (ending : Ending) (input : List ℕ) (a : Answer)
+        → IsAnswerBy (manner (from_one Lines) (form_of Nodes (laid_out [] ending)) (policy Whole Stop))
+        (query_alone text) input a
         → IsAnswerTo text input a }
-    ensures nodes { (n : Numbers) (k : OnFault) (asked : AskedTexts) (input : List ℕ) (a : Answer)
-        → IsAnswerBy (manner (from_one Lines) (form_of Nodes []) (policy n k)) asked input a
+    ensures nodes { (n : Numbers) (k : OnFault) (asked : AskedTexts) (ending : Ending) (input : List ℕ)
+        (a : Answer)
+        → IsAnswerBy (manner (from_one Lines) (form_of Nodes (laid_out [] ending)) (policy n k)) asked input a
         → (q : FilteredQuery) × AreAcceptedIn n asked q
         × ((t : Tests) → AreRight t → answer_by node_lines (policy n k) t q (lines input) ≡ a) }
 {}
 
 /// Where no document of the input is faulty by whole numbers alone, the answer with decimals is the same, in
-/// every form, behind any name or none, whether or not it keeps going, however the input is cut and numbered.
+/// every form, in any layout, whether or not it keeps going, however the input is cut and numbered.
 /// So a run that meets no faulty document writes the same with them.
 pub fn same_with_decimals()
-    ensures { (n : Numbering) (output : Output) (head : List ℕ) (k : OnFault) (asked : AskedTexts)
+    ensures { (n : Numbering) (output : Output) (layout : Layout) (k : OnFault) (asked : AskedTexts)
         (input : List ℕ) (a : Answer) → first_fault Whole (documents n input) ≡ None
-        → IsAnswerBy (manner n (form_of output head) (policy Whole k)) asked input a
-        → IsAnswerBy (manner n (form_of output head) (policy Decimals k)) asked input a }
+        → IsAnswerBy (manner n (form_of output layout) (policy Whole k)) asked input a
+        → IsAnswerBy (manner n (form_of output layout) (policy Decimals k)) asked input a }
 {}
 
 /// Where no line is faulty an answer has no byte exactly where no node of any document is selected: in every
-/// form, behind any name or none, whichever numbers it has, whether or not it keeps going.
+/// form, in any layout, whichever numbers it has, whether or not it keeps going.
 pub fn nothing_selected()
-    ensures { (output : Output) (head : List ℕ) (n : Numbers) (k : OnFault) (t : Tests) (q : FilteredQuery)
+    ensures { (output : Output) (layout : Layout) (n : Numbers) (k : OnFault) (t : Tests) (q : FilteredQuery)
         (ls : List Line) → first_fault n ls ≡ None
-        → ((answer_by (form_of output head) (policy n k) t q ls).bytes ≡ []) ↔ SelectsNothing n t q ls }
+        → ((answer_by (form_of output layout) (policy n k) t q ls).bytes ≡ []) ↔ SelectsNothing n t q ls }
 {}
 
 /// Parts that are numbered from 1 are the lines of `jp_doc`, or the documents of `jp_documents`.

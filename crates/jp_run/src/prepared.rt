@@ -98,7 +98,7 @@ impl Prepared {
             → AreAcceptedIn settings.now.numbers asked (prepared_query self.now)
             → IsRunOf asked settings.now S.Supply K.Sink source.old source.new sink.old sink.new result }
     {
-        let head = settings.head(crew.alloc)?;
+        let layout = settings.layout(crew.alloc)?;
         let job = Job {
             crew: Crew {
                 rt: crew.rt,
@@ -108,7 +108,7 @@ impl Prepared {
             query: self.plan.compiled(),
             filter: self.document_filter(crew.alloc),
             settings: *settings,
-            head: &head,
+            layout: &layout,
         };
         answer_in_form(&job, buffers, source, sink)
     }

@@ -10,12 +10,12 @@ use crate::limits::{MAX_DOCUMENTS, MAX_LINES, MAX_WORKERS};
 use crate::output::Output;
 use jp_answer::{LinePolicy, OnFault};
 use jp_number::Numbers;
-use jp_output::Head;
+use jp_output::{Ending, Head, Layout};
 use std::alloc::{AllocError, Global};
 
 /// How many workers answer, how many documents are a piece, how many a batch, how the input is cut into
 /// documents, how these are numbered, which numbers there may be, what a faulty line does, which form the
-/// answer has, what name stands before its lines, and which filter chooses documents.
+/// answer has, what ends its values, what name stands before its lines, and which filter chooses documents.
 #[derive(Clone, Copy, Debug, PartialEq, Eq, Drop)]
 pub struct Settings<'n> {
     /// The number of workers, 1 to 64.
@@ -35,6 +35,8 @@ pub struct Settings<'n> {
     pub before: u64,
     /// What is written.
     pub output: Output,
+    /// What ends each value, in a form of values.
+    pub ending: Ending,
     /// The name before each line of nodes and each fault line, with a tab, in the form that has these.
     pub name: Option<&'n str>,
     /// The text of the filter of which the documents are true that are answered: what may stand behind `?` in
@@ -46,11 +48,11 @@ pub struct Settings<'n> {
 
 impl<'n> Settings<'n> {
     ghost use Rattle.jp_answer.specs.Policy.{policy};
-    ghost use Rattle.jp_run.specs.Answered.{head_of};
+    ghost use Rattle.jp_run.specs.Answered.{head_of, layout_of};
 
     /// The settings, which take no memory. A document is a line, the first has the number 1, numbers are
     /// whole, and the answer ends at the first faulty line, and has a line for each node of every document,
-    /// with no name before it.
+    /// with no name before it. Line feeds end values.
     ///
     /// # Errors
     ///
@@ -61,6 +63,7 @@ impl<'n> Settings<'n> {
         ensures ends { IfOk result (λ s. s.on_fault ≡ OnFault.Stop) }
         ensures whole { IfOk result (λ s. s.numbers ≡ Numbers.Whole) }
         ensures nodes { IfOk result (λ s. s.output ≡ Output.Nodes) }
+        ensures line_feeds { IfOk result (λ s. s.ending ≡ Ending.LineFeed) }
         ensures lines { IfOk result (λ s. s.cutting ≡ Cutting.Lines) }
         ensures first { IfOk result (λ s. s.before ≡ 0) }
         ensures no_name { IfOk result (λ s. s.name ≡ None) }
@@ -83,6 +86,7 @@ impl<'n> Settings<'n> {
             cutting: Cutting::Lines,
             before: 0,
             output: Output::Nodes,
+            ending: Ending::LineFeed,
             name: None,
             filter: None,
         })
@@ -104,7 +108,7 @@ impl<'n> Settings<'n> {
             × (result.batch ≡ self.entry.batch) × (result.output ≡ self.entry.output)
             × (result.numbers ≡ self.entry.numbers) × (result.name ≡ self.entry.name)
             × (result.cutting ≡ self.entry.cutting) × (result.filter ≡ self.entry.filter)
-            × (result.before ≡ self.entry.before) }
+            × (result.before ≡ self.entry.before) × (result.ending ≡ self.entry.ending) }
         ensures going { result.on_fault ≡ OnFault.KeepGoing }
     {
         Settings {
@@ -116,6 +120,7 @@ impl<'n> Settings<'n> {
             cutting: self.cutting,
             before: self.before,
             output: self.output,
+            ending: self.ending,
             name: self.name,
             filter: self.filter,
         }
@@ -128,7 +133,7 @@ impl<'n> Settings<'n> {
             × (result.batch ≡ self.entry.batch) × (result.output ≡ self.entry.output)
             × (result.on_fault ≡ self.entry.on_fault) × (result.name ≡ self.entry.name)
             × (result.cutting ≡ self.entry.cutting) × (result.filter ≡ self.entry.filter)
-            × (result.before ≡ self.entry.before) }
+            × (result.before ≡ self.entry.before) × (result.ending ≡ self.entry.ending) }
         ensures decimals { result.numbers ≡ Numbers.Decimals }
     {
         Settings {
@@ -140,6 +145,7 @@ impl<'n> Settings<'n> {
             cutting: self.cutting,
             before: self.before,
             output: self.output,
+            ending: self.ending,
             name: self.name,
             filter: self.filter,
         }
@@ -151,7 +157,7 @@ impl<'n> Settings<'n> {
             × (result.batch ≡ self.entry.batch) × (result.on_fault ≡ self.entry.on_fault)
             × (result.numbers ≡ self.entry.numbers) × (result.name ≡ self.entry.name)
             × (result.cutting ≡ self.entry.cutting) × (result.filter ≡ self.entry.filter)
-            × (result.before ≡ self.entry.before) }
+            × (result.before ≡ self.entry.before) × (result.ending ≡ self.entry.ending) }
         ensures output { result.output ≡ output }
     {
         Settings {
@@ -163,6 +169,32 @@ impl<'n> Settings<'n> {
             cutting: self.cutting,
             before: self.before,
             output,
+            ending: self.ending,
+            name: self.name,
+            filter: self.filter,
+        }
+    }
+
+    /// The same settings, but for an answer of which this ends each value, in a form of values. It takes no
+    /// memory.
+    pub fn with_ending(self, ending: Ending) -> Settings<'n>
+        ensures same { (result.workers ≡ self.entry.workers) × (result.piece ≡ self.entry.piece)
+            × (result.batch ≡ self.entry.batch) × (result.on_fault ≡ self.entry.on_fault)
+            × (result.numbers ≡ self.entry.numbers) × (result.output ≡ self.entry.output)
+            × (result.name ≡ self.entry.name) × (result.cutting ≡ self.entry.cutting)
+            × (result.before ≡ self.entry.before) × (result.filter ≡ self.entry.filter) }
+        ensures ending { result.ending ≡ ending }
+    {
+        Settings {
+            workers: self.workers,
+            piece: self.piece,
+            batch: self.batch,
+            on_fault: self.on_fault,
+            numbers: self.numbers,
+            cutting: self.cutting,
+            before: self.before,
+            output: self.output,
+            ending,
             name: self.name,
             filter: self.filter,
         }
@@ -175,7 +207,7 @@ impl<'n> Settings<'n> {
             × (result.batch ≡ self.entry.batch) × (result.on_fault ≡ self.entry.on_fault)
             × (result.numbers ≡ self.entry.numbers) × (result.output ≡ self.entry.output)
             × (result.cutting ≡ self.entry.cutting) × (result.filter ≡ self.entry.filter)
-            × (result.before ≡ self.entry.before) }
+            × (result.before ≡ self.entry.before) × (result.ending ≡ self.entry.ending) }
         ensures name { result.name ≡ name.entry }
     {
         Settings {
@@ -187,6 +219,7 @@ impl<'n> Settings<'n> {
             cutting: self.cutting,
             before: self.before,
             output: self.output,
+            ending: self.ending,
             name,
             filter: self.filter,
         }
@@ -198,7 +231,7 @@ impl<'n> Settings<'n> {
             × (result.batch ≡ self.entry.batch) × (result.on_fault ≡ self.entry.on_fault)
             × (result.numbers ≡ self.entry.numbers) × (result.output ≡ self.entry.output)
             × (result.name ≡ self.entry.name) × (result.filter ≡ self.entry.filter)
-            × (result.before ≡ self.entry.before) }
+            × (result.before ≡ self.entry.before) × (result.ending ≡ self.entry.ending) }
         ensures cutting { result.cutting ≡ cutting }
     {
         Settings {
@@ -210,6 +243,7 @@ impl<'n> Settings<'n> {
             cutting,
             before: self.before,
             output: self.output,
+            ending: self.ending,
             name: self.name,
             filter: self.filter,
         }
@@ -226,7 +260,7 @@ impl<'n> Settings<'n> {
             × (s.batch ≡ self.entry.batch) × (s.on_fault ≡ self.entry.on_fault)
             × (s.numbers ≡ self.entry.numbers) × (s.output ≡ self.entry.output)
             × (s.name ≡ self.entry.name) × (s.cutting ≡ self.entry.cutting)
-            × (s.filter ≡ self.entry.filter)) }
+            × (s.filter ≡ self.entry.filter) × (s.ending ≡ self.entry.ending)) }
         ensures first { IfOk result (λ s. s.before + 1 ≡ first) }
         ensures in_range { IsOk result ↔ IsFirst first }
         ensures fault { OnErr result (IsErrOf result RunFault.Settings) }
@@ -243,6 +277,7 @@ impl<'n> Settings<'n> {
             cutting: self.cutting,
             before: first - 1,
             output: self.output,
+            ending: self.ending,
             name: self.name,
             filter: self.filter,
         })
@@ -255,7 +290,7 @@ impl<'n> Settings<'n> {
             × (result.batch ≡ self.entry.batch) × (result.on_fault ≡ self.entry.on_fault)
             × (result.numbers ≡ self.entry.numbers) × (result.output ≡ self.entry.output)
             × (result.name ≡ self.entry.name) × (result.cutting ≡ self.entry.cutting)
-            × (result.before ≡ self.entry.before) }
+            × (result.before ≡ self.entry.before) × (result.ending ≡ self.entry.ending) }
         ensures filter { result.filter ≡ filter.entry }
     {
         Settings {
@@ -267,6 +302,7 @@ impl<'n> Settings<'n> {
             cutting: self.cutting,
             before: self.before,
             output: self.output,
+            ending: self.ending,
             name: self.name,
             filter,
         }
@@ -274,12 +310,23 @@ impl<'n> Settings<'n> {
 
     /// What each line stands behind, in a form whose lines have a head. `AllocError` if memory was refused:
     /// none is taken where there is no name.
-    pub(crate) fn head(&self, alloc: Global) -> Result<Head, AllocError>
+    fn head(&self, alloc: Global) -> Result<Head, AllocError>
         ensures { IfOk result (λ head. head ≡ head_of self.now) }
     {
         match self.name {
             Some(name) => Head::of_name(alloc, name),
             None => Ok(Head::none()),
         }
+    }
+
+    /// What stands around what is written. `AllocError` if memory was refused: none is taken where there is
+    /// no name.
+    pub(crate) fn layout(&self, alloc: Global) -> Result<Layout, AllocError>
+        ensures { IfOk result (λ layout. layout ≡ layout_of self.now) }
+    {
+        Ok(Layout {
+            head: self.head(alloc)?,
+            ending: self.ending,
+        })
     }
 }

@@ -24,6 +24,7 @@ wanted_of w = record {
   cutting = w.settings.cutting;
   check = w.check;
   output = w.settings.output;
+  ending = w.settings.ending;
   numbers = w.settings.numbers;
   on_fault = w.settings.on_fault;
   explain = w.explain;

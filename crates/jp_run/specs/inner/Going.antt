@@ -26,7 +26,7 @@ all_bytes pieces = flat_map (λ piece. piece) pieces
 
 -- how the lines are to be answered of which this is asked
 abbrev pub manner_asked : {F : Type 0} → form.Ghosts F → Numbering → Asked → Manner
-manner_asked g numbering a = manner numbering (g.says a.head.now) a.policy
+manner_asked g numbering a = manner numbering (g.says a.layout.now) a.policy
 
 module _ {F : Type 0} {g : form.Ghosts F} {v : visit.Ghosts F} where
   -- the block has the lines that end in a piece behind these bytes, and asks this query of them

@@ -10,7 +10,7 @@ use Rattle.jp_answer.proofs.answering.answer_lines.Goals as goal
 
 pub loop-line-preserved-in_default : goal.loop-line-preserved-in_default
 loop-line-preserved-in_default g c =
-    let form = g.F.Form.says c.args.asked.now.head.now in
+    let form = g.F.Form.says c.args.asked.now.layout.now in
     let bytes = g.F.Form.written in
     let k = c.args.asked.now.policy in
     let lines = c.args.lines.now in
@@ -33,7 +33,7 @@ loop-line-preserved-in_default g c =
 pub returns-in-Stop-clause-answer : goal.returns-in-Stop-clause-answer
 returns-in-Stop-clause-answer g c = λ t right. answer_last
     c.args.asked.now.policy c.args.lines.now c.loop-line.line-index c.loop-line-test.true
-    (g.F.Form.says c.args.asked.now.head.now) (g.F.Form.form c.loop-line.written) t
+    (g.F.Form.says c.args.asked.now.layout.now) (g.F.Form.form c.loop-line.written) t
     (asked_query c.args.asked.now) (filtered_query c.loop-line.tools.evaluator)
     (g.F.Form.written c.loop-line.written)
     (bytes_in c.in_ok-into_chunks-in-Stop.field-0.items) c.loop-line.faulty c.in-Some.fault
@@ -59,7 +59,7 @@ overflow_add-faulty g c = omega (
 
 pub loop-line-preserved : goal.loop-line-preserved
 loop-line-preserved g c =
-    let form = g.F.Form.says c.args.asked.now.head.now in
+    let form = g.F.Form.says c.args.asked.now.layout.now in
     let bytes = g.F.Form.written in
     let k = c.args.asked.now.policy in
     let lines = c.args.lines.now in
@@ -83,7 +83,7 @@ loop-line-preserved g c =
     }
 
 pub returns-clause-answer : goal.returns-clause-answer
-returns-clause-answer g c = λ t right. answer_end (g.F.Form.says c.args.asked.now.head.now)
+returns-clause-answer g c = λ t right. answer_end (g.F.Form.says c.args.asked.now.layout.now)
     c.args.asked.now.policy t
     (asked_query c.args.asked.now) (map line_at c.args.lines.now)
     (map line_at (drop c.loop-line.line-index c.args.lines.now))

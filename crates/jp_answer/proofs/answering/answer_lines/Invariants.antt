@@ -11,11 +11,11 @@ use Rattle.jp_answer.proofs.answering.answer_lines.Given as goal
 abbrev pub invariant-loop-line : goal.invariant-loop-line
 invariant-loop-line g l = record {
   query : filtered_query l.tools.evaluator ≡ asked_query l.asked;
-  form : (t : Tests) → AreRight t → g.F.Form.form l.written ≡ g.F.Form.says l.asked.head.now;
-  answer : (t : Tests) → AreRight t → answer_by (g.F.Form.says l.asked.head.now) l.asked.policy t
+  form : (t : Tests) → AreRight t → g.F.Form.form l.written ≡ g.F.Form.says l.asked.layout.now;
+  answer : (t : Tests) → AreRight t → answer_by (g.F.Form.says l.asked.layout.now) l.asked.policy t
       (asked_query l.asked)
       (map line_at l.lines)
-      ≡ joined (so_far (g.F.Form.written l.written) l.faulty) (answer_by (g.F.Form.says l.asked.head.now)
+      ≡ joined (so_far (g.F.Form.written l.written) l.faulty) (answer_by (g.F.Form.says l.asked.layout.now)
       l.asked.policy t (asked_query l.asked) (map line_at (drop l.line-index l.lines)));
   stopped : stop_in l.asked.policy (map line_at l.lines)
       ≡ stop_in l.asked.policy (map line_at (drop l.line-index l.lines));

@@ -17,6 +17,7 @@ returns c = (
     cutting = refl;
     check = refl;
     output = refl;
+    ending = (refl, refl);
     numbers = refl;
     on_fault = refl;
     explain = refl;

@@ -16,6 +16,7 @@ returns c = (
     cutting = refl;
     check = refl;
     output = refl;
+    ending = (refl, tt);
     numbers = refl;
     on_fault = refl;
     explain = refl;

@@ -1,4 +1,4 @@
-use Rattle.std.proofs.Common.{◌≡◌, ◌∙◌, ℕ, ◌<◌, List, refl, sym, ap, arith, inr, [], ◌∷◌, Some, Option, codes}
+use Rattle.std.proofs.Common.{◌≡◌, ◌∙◌, ℕ, ◌≤◌, ◌<◌, true, length, List, refl, sym, ap, arith, inr, [], ◌∷◌, Some, Option, codes}
 use Rattle.std.proofs.Common.{subst, unwrap_or}
 use Rattle.std.proofs.lemmas.List.Elements.{All-head}
 use Rattle.std.specs.List.{All}
@@ -6,10 +6,12 @@ use Rattle.std.specs.Str.{chars}
 use Rattle.std.specs.Str.Parse.{digits_value, without_leading_plus}
 use Rattle.clap.specs.Walk.{Text, all_of, one_of, first_of}
 use Rattle.clap.proofs.OnLiterals.{clap_on_literals}
+use Rattle.jp_output.specs.declared.layout.Ending.{Ending}
+use Rattle.jp_output.specs.declared.layout.Ending.TheVariants.{LineFeed, Null}
 use Rattle.jp_run.specs.declared.output.Output.{Output}
 use Rattle.jp_run.specs.declared.output.Output.TheVariants.{Nodes, Values, Texts, Raw, Lines}
 use Rattle.jp_program.specs.CommandLine.{said, refusals}
-use Rattle.jp_program.specs.Wanted.{IsName, output_text}
+use Rattle.jp_program.specs.Wanted.{GoesWith, IsName, ends_with_null, flag_text, is_of_values, output_text}
 use Rattle.jp_program.proofs.Naming.{controlled}
 use Rattle.jp_program.proofs.examples.out_of_range.Goals as goal
 
@@ -122,6 +124,66 @@ returns-clause-letters c = inr (
   refl,
   λ w s. no_form (codes "Nodes") w.output (first_of (codes "output") (said capital)) capital_is s.output
       (let is : first (codes "Nodes") ≡ 78 = refl in omega (arith, is)),
+)
+
+-- U+0000 behind what is no value
+
+high_word : (o : Output) → is_of_values o ≡ true → 114 ≤ first (output_text o)
+high_word Values h = let is : first (output_text Values) ≡ 118 = refl in omega (arith, is)
+high_word Texts h = let is : first (output_text Texts) ≡ 116 = refl in omega (arith, is)
+high_word Raw h = let is : first (output_text Raw) ≡ 114 = refl in omega (arith, is)
+high_word Nodes h = absurd (cc)
+high_word Lines h = absurd (cc)
+
+not_ended : (word : Text) (o : Output) (e : Ending) (said null : Option Text) → said ≡ Some word
+    → said ≡ Some (output_text o) → null ≡ Some (codes "true") → null ≡ Some (flag_text (ends_with_null e))
+    → GoesWith e o → first word < 114 → ⊥
+not_ended word o Null said null is says there flag goes low =
+    let same : first word ≡ first (output_text o) = ap first (some_same word (output_text o) (sym is ∙ says))
+    in
+    omega (arith, same, low, high_word o goes)
+not_ended word o LineFeed said null is says there flag goes low =
+    let no : codes "true" ≡ codes "false" = some_same (codes "true") (codes "false") (sym there ∙ flag) in
+    absurd (omega (arith, ap length no))
+
+nodes : List Text
+nodes = codes "jp" ∷ codes "-0" ∷ codes "$" ∷ []
+
+nodes_is : first_of (codes "output") (said nodes) ≡ Some (codes "nodes")
+unfolding clap_on_literals said refusals nodes
+nodes_is = refl
+
+nodes_null : one_of (codes "null") (said nodes) ≡ Some (codes "true")
+unfolding clap_on_literals said refusals nodes
+nodes_null = refl
+
+pub returns-clause-null_behind_nodes : goal.returns-clause-null_behind_nodes
+unfolding clap_on_literals said refusals nodes
+returns-clause-null_behind_nodes c = inr (
+  refl,
+  λ w s. not_ended (codes "nodes") w.output w.ending (first_of (codes "output") (said nodes))
+      (one_of (codes "null") (said nodes)) nodes_is s.output nodes_null s.ending.0 s.ending.1
+      (let is : first (codes "nodes") ≡ 110 = refl in omega (arith, is)),
+)
+
+lines : List Text
+lines = codes "jp" ∷ codes "--null" ∷ codes "-o" ∷ codes "lines" ∷ codes "$" ∷ []
+
+lines_is : first_of (codes "output") (said lines) ≡ Some (codes "lines")
+unfolding clap_on_literals said refusals lines
+lines_is = refl
+
+lines_null : one_of (codes "null") (said lines) ≡ Some (codes "true")
+unfolding clap_on_literals said refusals lines
+lines_null = refl
+
+pub returns-clause-null_behind_lines : goal.returns-clause-null_behind_lines
+unfolding clap_on_literals said refusals lines
+returns-clause-null_behind_lines c = inr (
+  refl,
+  λ w s. not_ended (codes "lines") w.output w.ending (first_of (codes "output") (said lines))
+      (one_of (codes "null") (said lines)) lines_is s.output lines_null s.ending.0 s.ending.1
+      (let is : first (codes "lines") ≡ 108 = refl in omega (arith, is)),
 )
 
 line_feed : List Text

@@ -17,6 +17,7 @@ returns c = λ name rest. (
     cutting = refl;
     check = refl;
     output = refl;
+    ending = (refl, tt);
     numbers = refl;
     on_fault = refl;
     explain = refl;

@@ -4,13 +4,13 @@ use Rattle.jp_program.proofs.turn.settings_for.Goals as goal
 pub returns-then-wanted-clause-manner : goal.returns-then-wanted-clause-manner
 returns-then-wanted-clause-manner c =
     let same = c.with_name.ensures.same in
-    manner_so _ _ _ _ _ _ _ _ _ _ (numbering_so _ _ _ _ same.6 same.8) same.5
+    manner_so _ _ _ _ _ _ _ _ _ _ _ _ (numbering_so _ _ _ _ same.6 same.8) same.5
     (head_named c.args.wanted.now.names c.args.name c.with_name.result.name c.if-wanted.true
-    c.with_name.ensures.name) same.4 same.3
+    c.with_name.ensures.name) same.9 same.4 same.3
 
 pub returns-else-wanted-clause-manner : goal.returns-else-wanted-clause-manner
 returns-else-wanted-clause-manner c =
     let same = c.with_name-else-wanted.ensures.same in
-    manner_so _ _ _ _ _ _ _ _ _ _ (numbering_so _ _ _ _ same.6 same.8) same.5
+    manner_so _ _ _ _ _ _ _ _ _ _ _ _ (numbering_so _ _ _ _ same.6 same.8) same.5
     (head_unnamed c.args.wanted.now.names c.args.name c.with_name-else-wanted.result.name c.if-wanted.false
-    c.with_name-else-wanted.ensures.name) same.4 same.3
+    c.with_name-else-wanted.ensures.name) same.9 same.4 same.3

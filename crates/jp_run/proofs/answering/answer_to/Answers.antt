@@ -5,5 +5,5 @@ use Rattle.jp_run.proofs.answering.answer_to.Goals as goal
 
 pub returns : goal.returns
 returns g c = in_manner g.F.Form.says _ _ _ _ _ _ (map line_at c.args.lines.now) c.in_ok-answer.answer
-    c.asked-asked.ensures.head c.asked-asked.ensures.policy c.asked-asked.ensures.query
+    c.asked-asked.ensures.layout c.asked-asked.ensures.policy c.asked-asked.ensures.query
     c.in_ok-answer.ensures

@@ -16,9 +16,9 @@ returns-clause-whole g c = λ t right.
     (sym (ap (map line_at) c.deref.ensures.value ∙ c.in_ok-lines.ensures))
     ∙ ap (λ (r : Query). whole t r lines) (sym c.compiled.ensures)
     ∙ ap (λ (a : Answer). record { bytes = a.bytes; stopped = None; faulty = a.faulty })
-    (asked_so c.asked_of-asked.result c.none-head.result (compiled_query c.compiled.result.now) KeepGoing t
-    lines c.asked_of-asked.ensures.query c.asked_of-asked.ensures.head c.asked_of-asked.ensures.policy
-    c.none-head.ensures
+    (asked_so c.asked_of-asked.result c.plain-layout.result (compiled_query c.compiled.result.now) KeepGoing t
+    lines c.asked_of-asked.ensures.query c.asked_of-asked.ensures.layout c.asked_of-asked.ensures.policy
+    c.plain-layout.ensures.head
     ∙ c.in_ok-answer.ensures.answer t right)
     ∙ ap (λ (bs : List ℕ). record { bytes = bs; stopped = None; faulty = c.in_ok-answer.answer.faulty })
     (sym c.in_ok-join_chunks.ensures)

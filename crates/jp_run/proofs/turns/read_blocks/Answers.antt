@@ -34,8 +34,8 @@ answer_beside-requires-clause-unused g c κs within =
       bytes = c.new-out.ensures.bytes;
       asks = (
         ap asked_query c.new-out.ensures.asked ∙ c.asked.ensures.query,
-        ap (λ (a : Asked). manner numbering (g.F.Form.says a.head.now) a.policy) c.new-out.ensures.asked
-            ∙ ap₂ (λ head policy. manner numbering (g.F.Form.says head) policy) c.asked.ensures.head
+        ap (λ (a : Asked). manner numbering (g.F.Form.says a.layout.now) a.policy) c.new-out.ensures.asked
+            ∙ ap₂ (λ layout policy. manner numbering (g.F.Form.says layout) policy) c.asked.ensures.layout
             c.asked.ensures.policy,
       );
     }

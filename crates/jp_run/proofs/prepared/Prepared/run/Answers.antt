@@ -4,8 +4,8 @@ use Rattle.jp_run.proofs.Accepted.{spelled}
 use Rattle.jp_run.proofs.Runs.{not_begun, run_of}
 use Rattle.jp_run.proofs.prepared.Prepared.run.Goals as goal
 
-pub returns-in_err-head : goal.returns-in_err-head
-returns-in_err-head g c = record { ran = λ asked accepted. not_begun asked _ c.from_residual.ensures.1 }
+pub returns-in_err-layout : goal.returns-in_err-layout
+returns-in_err-layout g c = record { ran = λ asked accepted. not_begun asked _ c.from_residual.ensures.1 }
 
 pub answer_in_form-requires-clause-working : goal.answer_in_form-requires-clause-working
 answer_in_form-requires-clause-working g c = λ κs outlives. c.requires.working
