@@ -16,6 +16,7 @@ mod flat;
 mod flat_nodes;
 mod found;
 mod line_scan;
+mod memory;
 mod node;
 mod number;
 mod output;

@@ -1,0 +1,7 @@
+-- The definitions of `jp_c`.
+pub mod Asked
+pub mod Checked
+pub mod Codes
+pub mod Options
+pub mod Told
+pub mod inner

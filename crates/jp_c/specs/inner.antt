@@ -1,0 +1,2 @@
+-- Working files of `jp_c`, which private clauses alone cite: nobody has to believe them.
+pub mod Refusals

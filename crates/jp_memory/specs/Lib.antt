@@ -1,0 +1,3 @@
+-- The definitions of `jp_memory`.
+pub mod Answered
+pub mod inner
