@@ -6,6 +6,8 @@ use Rattle.jp_number.specs.declared.numbers.Numbers.TheVariants.{Whole, Decimals
 use Rattle.jp_answer.specs.Policy.{policy}
 use Rattle.jp_answer.specs.declared.on_fault.OnFault.{OnFault}
 use Rattle.jp_answer.specs.declared.on_fault.OnFault.TheVariants.{Stop, KeepGoing}
+use Rattle.jp_output.specs.Layouts.{laid_out}
+use Rattle.jp_output.specs.declared.layout.Ending.TheVariants.{LineFeed}
 use Rattle.jp_run.specs.AskedTexts.{AskedTexts}
 use Rattle.jp_run.specs.Forms.{form_of}
 use Rattle.jp_run.specs.Limits.{max_lines}
@@ -39,7 +41,7 @@ AreOutOfRange o = (form_named o.form ≡ None) ⊎ (max_lines < o.first)
 -- the manner that they ask for, in this form: no name stands before a line
 abbrev pub manner_by : Options → Output → Manner
 manner_by o output = manner (record { cutting = cutting_by o.documents; before = o.first - 1 })
-    (form_of output []) (policy (numbers_by o.decimals) (on_fault_by o.keep_going))
+    (form_of output (laid_out [] LineFeed)) (policy (numbers_by o.decimals) (on_fault_by o.keep_going))
 
 -- the filter that they ask for, of these bytes, if there is one
 abbrev pub filter_by : ℕ → List ℕ → Option Text

@@ -12,6 +12,7 @@ ghost use Rattle.jp_c.specs.Options as by;
 use crate::options::{Options, cutting_by, form_named, numbers_by, on_fault_by};
 use crate::refused::Refused;
 use jp_memory::{Answered, answer_bytes};
+use jp_output::Ending;
 use jp_run::{Output, Settings};
 use std::alloc::Global;
 use std::str;
@@ -82,6 +83,7 @@ fn settings_by<'f>(options: &Options, form: Output, filter: Option<&'f str>) -> 
         cutting: cutting_by(options.documents),
         before: options.first.saturating_sub(1),
         output: form,
+        ending: Ending::LineFeed,
         name: None,
         filter,
     }

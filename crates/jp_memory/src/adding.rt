@@ -43,7 +43,7 @@ impl<'q, F: Form + Drop> Answering<'q, F> {
     pub(crate) fn new(alloc: Global, asked: &Asked<'q>) -> Answering<'q, F>
         ensures answer { told (F.written result.written) result.stopped result.faulty ≡ nothing }
         ensures unstopped { result.stopped ≡ None }
-        ensures form { F.form result.written ≡ F.says asked.now.head.now }
+        ensures form { F.form result.written ≡ F.says asked.now.layout.now }
         ensures asked { result.asked ≡ asked.now }
         ensures query { filtered_query result.evaluator ≡ asked_query asked.now }
     {
@@ -52,7 +52,7 @@ impl<'q, F: Form + Drop> Answering<'q, F> {
             asked: *asked,
             reader: LineReader::new(alloc),
             evaluator: FilteredEvaluator::new(alloc, asked),
-            written: F::new(alloc, asked.head),
+            written: F::new(alloc, asked.layout),
             faulty: 0,
             stopped: None,
         }

@@ -32,7 +32,7 @@ pub(crate) fn answer_in<F: Form + Drop>(
     input: &[u8],
 ) -> Result<Answered, RunFault>
     ensures answer { IfOk result (λ a. (t : Tests) → AreRight t
-        → answer_by (F.says asked.now.head.now) asked.now.policy t (asked_query asked.now)
+        → answer_by (F.says asked.now.layout.now) asked.now.policy t (asked_query asked.now)
         (documents (numbering_of settings.now) input.now) ≡ answered_of a) }
     ensures fault { IfErr result (λ fault. (fault ≡ RunFault.Memory) ⊎ ((fault ≡ RunFault.Limit)
         × (max_lines < last_number (numbering_of settings.now) input.now))) }
@@ -51,10 +51,10 @@ fn answer_all<F: Form + Drop>(
     requires none { told (F.written answering.old.written) answering.old.stopped answering.old.faulty
         ≡ nothing }
     requires unstopped { answering.old.stopped ≡ None }
-    requires form { F.form answering.old.written ≡ F.says answering.old.asked.head.now }
+    requires form { F.form answering.old.written ≡ F.says answering.old.asked.layout.now }
     requires query { filtered_query answering.old.evaluator ≡ asked_query answering.old.asked }
     ensures answer { OnOk result ((t : Tests) → AreRight t
-        → answer_by (F.says answering.old.asked.head.now) answering.old.asked.policy t
+        → answer_by (F.says answering.old.asked.layout.now) answering.old.asked.policy t
         (asked_query answering.old.asked) (documents (numbering_of settings.now) input.now)
         ≡ told (F.written answering.new.written) answering.new.stopped answering.new.faulty) }
     ensures fault { IfErr result (λ fault. (fault ≡ RunFault.Memory) ⊎ ((fault ≡ RunFault.Limit)

@@ -12,7 +12,7 @@ ghost use Rattle.jp_answer.specs.Answer.{answer_by};
 ghost use Rattle.jp_answer.specs.Asking.{asked_query};
 ghost use Rattle.jp_answer.specs.FilteredQuery.{FilteredQuery};
 ghost use Rattle.jp_answer.specs.Policy.{policy};
-ghost use Rattle.jp_run.specs.Answered.{IsAnswerBy, head_of, manner_of, numbering_of};
+ghost use Rattle.jp_run.specs.Answered.{IsAnswerBy, head_of, layout_of, manner_of, numbering_of};
 ghost use Rattle.jp_run.specs.AskedTexts.{AskedTexts, AreAcceptedIn, AreRefusedIn, asked_by};
 ghost use Rattle.jp_run.specs.Cutting.{documents, last_number};
 ghost use Rattle.jp_run.specs.Forms.{form_of};
@@ -24,7 +24,7 @@ use crate::answered::Answered;
 use crate::answering::answer_in;
 use jp_answer::{Asked, LinePolicy};
 use jp_eval::DocumentFilter;
-use jp_output::{Head, InputLines, NodeLines, RawLines, TextLines, ValueLines};
+use jp_output::{Head, InputLines, Layout, NodeLines, RawLines, TextLines, ValueLines};
 use jp_run::{Output, Prepared, RunFault, Settings};
 use jp_tree::QueryFault;
 use std::alloc::{AllocError, Global};
@@ -78,11 +78,11 @@ pub fn answer_prepared(
     ensures fault { IfErr result (λ fault. (fault ≡ RunFault.Memory) ⊎ ((fault ≡ RunFault.Limit)
         × (max_lines < last_number (numbering_of settings.now) input.now))) }
 {
-    let head = head_by(alloc, settings)?;
+    let layout = layout_by(alloc, settings)?;
     let asked = Asked {
         query: prepared.plan().compiled(),
         filter: document_filter(alloc, prepared),
-        head: &head,
+        layout: &layout,
         policy: LinePolicy {
             numbers: settings.numbers,
             on_fault: settings.on_fault,
@@ -104,6 +104,17 @@ fn head_by(alloc: Global, settings: &Settings<'_>) -> Result<Head, AllocError>
     }
 }
 
+/// What stands around what is written. `AllocError` if memory was refused: none is taken where there is no
+/// name.
+fn layout_by(alloc: Global, settings: &Settings<'_>) -> Result<Layout, AllocError>
+    ensures { IfOk result (λ layout. layout ≡ layout_of settings.now) }
+{
+    Ok(Layout {
+        head: head_by(alloc, settings)?,
+        ending: settings.ending,
+    })
+}
+
 /// What asks the filter, if there is one, of documents. It takes no memory.
 fn document_filter(alloc: Global, prepared: &Prepared) -> Option<DocumentFilter<'_>>
     ensures { option_map asked_filter result ≡ (prepared_query prepared.now).filter }
@@ -122,7 +133,7 @@ fn answer_in_form(
     input: &[u8],
 ) -> Result<Answered, RunFault>
     ensures answer { IfOk result (λ a. (t : Tests) → AreRight t
-        → answer_by (form_of settings.now.output asked.now.head.now) asked.now.policy t
+        → answer_by (form_of settings.now.output asked.now.layout.now) asked.now.policy t
         (asked_query asked.now) (documents (numbering_of settings.now) input.now) ≡ answered_of a) }
     ensures fault { IfErr result (λ fault. (fault ≡ RunFault.Memory) ⊎ ((fault ≡ RunFault.Limit)
         × (max_lines < last_number (numbering_of settings.now) input.now))) }

@@ -16,7 +16,7 @@ returns-in_err-answer_piece-clause-fault g c =
     let asked = c.args.answering.now.asked in
     let now = c.loop-rest.answering in
     fault_so c.from_residual.result c.in_err-answer_piece.field-0.0 c.from_residual.ensures.1
-    (over_in (g.F.Form.says asked.head.now) asked (numbering_of c.args.settings.now) c.args.input.now
+    (over_in (g.F.Form.says asked.layout.now) asked (numbering_of c.args.settings.now) c.args.input.now
     c.loop-rest.rest.now c.split_at.result.0.now c.split_at.result.1.now c.loop-rest.buffer
     (told (g.F.Form.written now.written) now.stopped now.faulty) c.loop-rest.invariant.stands
     (together _ _ _ _ c.split_at.ensures.front c.split_at.ensures.back))
@@ -25,7 +25,7 @@ returns-in_err-answer_piece-clause-fault g c =
 pub returns-then-is_some-clause-answer : goal.returns-then-is_some-clause-answer
 returns-then-is_some-clause-answer g c =
     let asked = c.args.answering.now.asked in
-    let form = g.F.Form.says asked.head.now in
+    let form = g.F.Form.says asked.layout.now in
     let bytes = g.F.Form.written in
     let now = c.loop-rest.answering in
     let next = c.answer_piece.new.answering in
@@ -49,7 +49,7 @@ returns-then-is_some-clause-answer g c =
 pub loop-rest-preserved : goal.loop-rest-preserved
 loop-rest-preserved g c =
     let asked = c.args.answering.now.asked in
-    let form = g.F.Form.says asked.head.now in
+    let form = g.F.Form.says asked.layout.now in
     let bytes = g.F.Form.written in
     let now = c.loop-rest.answering in
     let next = c.answer_piece.new.answering in
@@ -77,7 +77,7 @@ loop-rest-preserved g c =
 pub returns-clause-answer : goal.returns-clause-answer
 returns-clause-answer g c =
     let asked = c.args.answering.now.asked in
-    let form = g.F.Form.says asked.head.now in
+    let form = g.F.Form.says asked.layout.now in
     let bytes = g.F.Form.written in
     let now = c.loop-rest.answering in
     let last = c.answer_last.new.answering in
@@ -95,7 +95,7 @@ pub returns-clause-fault : goal.returns-clause-fault
 returns-clause-fault g c =
     let asked = c.args.answering.now.asked in
     let now = c.loop-rest.answering in
-    fault_more c.answer_last.result (over_last (g.F.Form.says asked.head.now) asked
+    fault_more c.answer_last.result (over_last (g.F.Form.says asked.layout.now) asked
     (numbering_of c.args.settings.now) c.args.input.now c.loop-rest.rest.now c.loop-rest.buffer
     (told (g.F.Form.written now.written) now.stopped now.faulty) c.loop-rest.invariant.stands
     (none_of c.loop-rest.rest.now c.loop-rest-test.ensures)) c.answer_last.ensures.fault

@@ -10,7 +10,7 @@ use Rattle.jp_memory.proofs.answering.answer_all.Given as goal
 abbrev pub invariant-loop-rest : goal.invariant-loop-rest
 invariant-loop-rest g l =
     let asked = l.fn.answering.asked in
-    let form = g.F.Form.says asked.head.now in
+    let form = g.F.Form.says asked.layout.now in
     record {
       stands : Stands form asked (numbering_of l.settings) l.input l.rest l.buffer
           (told (g.F.Form.written l.answering.written) l.answering.stopped l.answering.faulty);

@@ -12,6 +12,6 @@ answer_all-requires-clause-query g c =
 
 pub returns-clause-answer : goal.returns-clause-answer
 returns-clause-answer g c = λ t right.
-    ap (λ (a : Asked). answer_by (g.F.Form.says a.head.now) a.policy t (asked_query a)
+    ap (λ (a : Asked). answer_by (g.F.Form.says a.layout.now) a.policy t (asked_query a)
     (documents (numbering_of c.args.settings.now) c.args.input.now)) (sym c.new-answering.ensures.asked)
     ∙ c.in_ok-answer_all.ensures.answer t right ∙ sym c.in_ok-into_answered.ensures
