@@ -1,6 +1,7 @@
 -- A working file, which nobody has to believe: a turn of a run, for private clauses alone.
 use Rattle.std.specs.Prelude.{◌≡◌, ℕ, ◌+◌, ◌<◌, ◌≤◌, ◌^◌, false, List, Result, IfOk, OnOk, IfErr}
 use Rattle.jp_output.specs.OutputForm.{OutputForm}
+use Rattle.jp_output.specs.declared.layout.Layout.{Layout}
 use Rattle.jp_run.specs.Answered.{manner_in}
 use Rattle.jp_run.specs.Limits.{max_lines}
 use Rattle.jp_run.specs.declared.ends.Sink as sink
@@ -13,7 +14,7 @@ use Rattle.jp_run.specs.inner.Ready.{IsReady, StaysReady}
 use Rattle.jp_run.specs.inner.Jobs.{job_query}
 use Rattle.jp_run.specs.inner.Turning.{AllNear, AllPrompt, CameSo, IsStanding, StandsOn, StandsToEnd}
 
-module _ {R G S K : Type 0} (says : List ℕ → OutputForm) (source : supply.Ghosts S) (k : sink.Ghosts K)
+module _ {R G S K : Type 0} (says : Layout → OutputForm) (source : supply.Ghosts S) (k : sink.Ghosts K)
   where
     -- a turn may begin
     pub record MayTurn (job : Job R G) (a : S) (u : K) (s : Stream) : Type 0 where
