@@ -34,7 +34,7 @@ Examples:
   jp --where '@.level==\"error\"' '$.msg' < app.log
   jp --output lines '$[?$.level==\"error\"]' app.log
   jp --output texts '$.msg' < app.log
-  jp -0 --output raw '$.path' < files.jsonl | xargs -0 ls -l
+  jp -0 --output raw '$.path' < files.jsonl | xargs -0 ls
   jp -d --documents '$.service.port' service.json
   jp -de --documents '$.service.user' service.json
   jp --workers 8 '$.items[?@.count > 10]' < orders.jsonl
