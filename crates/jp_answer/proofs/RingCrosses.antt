@@ -15,12 +15,13 @@ use Rattle.jp_answer.specs.contracts.ring.Ring as Ring
 use Rattle.jp_answer.specs.contracts.task.Task as Task
 use Rattle.jp_eval.proofs.FilterCrosses.{query_sync, filter_send, filter_sync}
 use Rattle.jp_answer.proofs.outcome.Outcome.TheSendSync as outcomes
+use Rattle.jp_output.proofs.layout.Layout.TheSendSync as layouts
 
 asked_send : (a : NamedLft) → IsSend (Asked.the_field a).row
-asked_send a = search (query_sync, filter_send, crosses, sendable) depth 60 fits 20000
+asked_send a = search (query_sync, filter_send, layouts.the_field_sync, crosses, sendable) depth 60 fits 20000
 
 asked_sync : (a : NamedLft) → IsSync (Asked.the_field a).row
-asked_sync a = search (query_sync, filter_sync, crosses, sendable) depth 60 fits 20000
+asked_sync a = search (query_sync, filter_sync, layouts.the_field_sync, crosses, sendable) depth 60 fits 20000
 
 task_send : (a : NamedLft) → IsSend (Task.the_field a).row
 task_send a = search (asked_send, crosses, sendable) depth 60 fits 20000
