@@ -1,10 +1,10 @@
 /*
  * jp.h: JSONPath queries (RFC 9535) over JSON documents, one on a line or one after another.
  *
- * Two functions: jp_check tells whether a text is a query, and jp_answer answers an input that stands in
- * memory. Both work on the thread that calls them. They start no thread, take no lock, open no file, print
- * nothing, and keep nothing from call to call: there is nothing to begin or to close. Any number of threads
- * may call them at once, each with buffers of its own.
+ * Three functions: jp_check tells whether a text is a query, jp_explain why it is none, and jp_answer answers
+ * an input that stands in memory. All work on the thread that calls them. They start no thread, take no lock,
+ * open no file, print nothing, and keep nothing from call to call: there is nothing to begin or to close. Any
+ * number of threads may call them at once, each with buffers of its own.
  *
  * What every call owes
  *
@@ -12,7 +12,7 @@
  *     is 0.
  *   - Each length is that of memory that may be read, or for an output buffer be written, and is at most
  *     SIZE_MAX / 2.
- *   - What is written (out, report, place) overlaps nothing else that is passed to the same call, and no
+ *   - What is written (out, report, place, needed) overlaps nothing else that is passed to the same call, and no
  *     other thread uses it during the call. What is read does not change during the call.
  *   - malloc, realloc and free are those of one allocator, and blocks are aligned as the C standard says.
  *   - No call is made in a signal handler, or in the child that fork makes of a process with threads.
@@ -69,6 +69,18 @@ extern "C" {
  * *place is 0.
  */
 uint32_t jp_check(const uint8_t *query, size_t query_length, uint32_t decimals, size_t *place);
+
+/*
+ * Why query, of query_length bytes, is no query: what the command jp shows below the fault. That is a line of
+ * the query, a line with a caret under the place where it goes wrong, a line that says what was expected, and
+ * often one that says what to write. Each line ends in a line feed.
+ *
+ * Gives what jp_check gives. After JP_TOO_DEEP to JP_TYPE, *needed is how many bytes the lines have, and the
+ * first bytes of out are those of the lines: all of them if *needed is at most out_length, else the first
+ * out_length of them. The other bytes of out are as they were. Else *needed is 0, and out is as it was.
+ */
+uint32_t jp_explain(const uint8_t *query, size_t query_length, uint32_t decimals, uint8_t *out,
+                    size_t out_length, size_t *needed);
 
 /* What is written: options->form. */
 #define JP_NODES 0  /* for each node a line: the number, a tab, the normalized path, a tab, the value */

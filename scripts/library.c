@@ -3,7 +3,8 @@
  * the cases to standard input. A case is a kind, ten numbers and four texts; a number has eight bytes, the
  * lowest first, and a text stands behind its length.
  *
- * Each answer is asked for with room for all of it, for more, for half of it, for a byte less and for none.
+ * Each answer and each explanation is asked for with room for all of it, for more, for half of it, for a byte
+ * less and for none.
  * The last line says how many calls were made; the status is 1 where any gave something else.
  */
 #include "jp.h"
@@ -96,6 +97,25 @@ static void check(unsigned long which, uint64_t decimals, const uint64_t *wanted
     if ((status < JP_TOO_DEEP || status > JP_TYPE) && place) differs(which, "the place", place, 0);
 }
 
+static void explain(unsigned long which, uint64_t decimals, uint64_t wanted, const text *query,
+                    const text *lines, size_t room) {
+    uint8_t *out = block(room);
+    memset(out, UNTOUCHED, room);
+    size_t needed = 12345;
+    uint32_t status = jp_explain(query->bytes, query->length, (uint32_t)decimals, out, room, &needed);
+    calls++;
+    if (status != wanted) differs(which, "the status", status, wanted);
+    if (needed != lines->length) differs(which, "needed", needed, lines->length);
+    for (size_t at = 0; at < room; at++) {
+        uint8_t byte = at < lines->length ? lines->bytes[at] : UNTOUCHED;
+        if (out[at] != byte) {
+            differs(which, "a byte", out[at], byte);
+            break;
+        }
+    }
+    free(out);
+}
+
 int main(void) {
     int kind;
     for (unsigned long which = 1; (kind = getchar()) != EOF; which++) {
@@ -114,11 +134,14 @@ int main(void) {
             check(which, options.decimals, wanted, &texts[0]);
         } else {
             size_t whole = texts[3].length;
-            answer(which, &options, wanted, texts, whole);
-            answer(which, &options, wanted, texts, whole + 7);
-            answer(which, &options, wanted, texts, whole / 2);
-            answer(which, &options, wanted, texts, whole ? whole - 1 : 0);
-            answer(which, &options, wanted, texts, 0);
+            const size_t rooms[] = {whole, whole + 7, whole / 2, whole ? whole - 1 : 0, 0};
+            for (size_t at = 0; at < sizeof rooms / sizeof *rooms; at++) {
+                if (kind == 'x') {
+                    explain(which, options.decimals, wanted[0], &texts[0], &texts[3], rooms[at]);
+                } else {
+                    answer(which, &options, wanted, texts, rooms[at]);
+                }
+            }
         }
         for (int at = 0; at < 4; at++) free(texts[at].bytes);
     }

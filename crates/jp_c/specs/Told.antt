@@ -1,8 +1,9 @@
 -- What C is told of an answer.
-use Rattle.std.specs.Prelude.{◌≡◌, ℕ, ◌⊎◌, List, ◌++◌, Option, Some, None, drop, length, take}
+use Rattle.std.specs.Prelude.{◌≡◌, ℕ, ◌⊎◌, List, Option, Some, None, length}
 use Rattle.jp_doc.specs.declared.fault.DocFault.{DocFault}
 use Rattle.jp_answer.specs.Answer.{Answer}
 use Rattle.jp_c.specs.Asked.{IsAnswerAsked, IsRefusedSo}
+use Rattle.jp_c.specs.Buffers.{IsFilledBy}
 use Rattle.jp_c.specs.Codes.{code_of, line_code}
 use Rattle.jp_c.specs.declared.options.Options.{Options}
 use Rattle.jp_c.specs.declared.refused.Refused.{Refused}
@@ -16,7 +17,7 @@ IsStopTold (Some s) status line fault = (status ≡ 32) × (line ≡ s.0) × (fa
 -- the answer is told: its front stands in the buffer, as much as there is room for, and behind it the buffer
 -- is as it was
 pub record IsTold (a : Answer) (old new : List ℕ) (r : Report) (status : ℕ) : Type 0 where
-  pub bytes : new ≡ take (length old) a.bytes ++ drop (length a.bytes) old
+  pub bytes : IsFilledBy a.bytes old new
   pub needed : r.needed ≡ length a.bytes
   pub faulty : r.faulty ≡ a.faulty
   pub stopped : IsStopTold a.stopped status r.line r.fault

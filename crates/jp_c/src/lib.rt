@@ -3,6 +3,7 @@
 #![tactic(auto)]
 
 ghost use Rattle.jp_c.specs.Checked.{IsChecked};
+ghost use Rattle.jp_c.specs.Explained.{IsExplained};
 ghost use Rattle.jp_c.specs.Options as by;
 ghost use Rattle.jp_c.specs.Told.{HasTold};
 
@@ -17,7 +18,7 @@ use asking::answer;
 use codes::{MEMORY, OK, QUERY_TEXT, query_code};
 use copying::copy_front;
 use jp_check::plan_in;
-use jp_explain::explain;
+use jp_explain::{explain, write_mark};
 use jp_tree::QueryFault;
 pub use options::Options;
 use options::numbers_by;
@@ -48,6 +49,42 @@ pub extern "C" fn jp_check(alloc: Global, query: &[u8], decimals: u32, place: &m
         return MEMORY;
     };
     *place = found.mark;
+    query_code(fault)
+}
+
+/// Why the bytes are no query: the lines for a terminal that show where it goes wrong, and often what was
+/// meant. Their front goes into `out`, as much as there is room for, and `needed` is how long they are. Gives
+/// what `jp_check` gives. Of a query that is accepted, of bytes that are no UTF-8 and where memory was refused
+/// there is nothing to say: `needed` is 0, and `out` is as it was.
+#[unsafe(no_mangle)]
+pub extern "C" fn jp_explain(
+    alloc: Global,
+    query: &[u8],
+    decimals: u32,
+    out: &mut [u8],
+    needed: &mut usize,
+) -> u32
+    ensures { IsExplained (by.numbers_by decimals) query.now out.old out.new needed.new result }
+{
+    *needed = 0;
+    let Ok(text) = str::from_utf8(query) else {
+        return QUERY_TEXT;
+    };
+    let numbers = numbers_by(decimals);
+    let fault = match plan_in(alloc, text, numbers) {
+        Ok(_plan) => return OK,
+        Err(QueryFault::Memory) => return MEMORY,
+        Err(fault) => fault,
+    };
+    let Ok(Some(found)) = explain(alloc, text, numbers) else {
+        return MEMORY;
+    };
+    let Ok(lines) = write_mark(alloc, text, &found) else {
+        return MEMORY;
+    };
+    let bytes = lines.as_bytes();
+    copy_front(bytes, out);
+    *needed = bytes.len();
     query_code(fault)
 }
 
