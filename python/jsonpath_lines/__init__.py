@@ -4,8 +4,8 @@
     >>> query = Query("$..name")
     >>> for node in query.find('{"name": "shop", "hosts": [{"name": "a"}]}'):
     ...     print(node.path, node.value)
-    $['hosts'][0]['name'] a
     $['name'] shop
+    $['hosts'][0]['name'] a
 
 A query is what RFC 9535 says, with its functions and filters, and nothing besides but the two functions
 `xor` and `distinct`. Numbers are exact: a whole number is an `int`, any other a `Decimal`.
