@@ -64,7 +64,7 @@ blanks line from end e = record {
 -- ---- plain texts
 
 -- plain bytes stand for themselves
-plain_stands : (xs : List ℕ) (n : ℕ) → n ≤ prefix_len is_plain xs → escape (take n xs) ≡ take n xs
+pub plain_stands : (xs : List ℕ) (n : ℕ) → n ≤ prefix_len is_plain xs → escape (take n xs) ≡ take n xs
 plain_stands xs zero h = refl
 plain_stands [] (suc n) h = refl
 plain_stands (x ∷ xs) (suc n) h =

@@ -3,6 +3,7 @@ mod Cuts
 mod Printing
 mod Growing
 mod Digits
+mod Unescaping
 mod OneNode
 mod Loops
 mod WholeLine
