@@ -3,7 +3,7 @@
 ghost use Rattle.std.specs.Prelude.{◌≡◌, ℕ, ◌<◌, ◌≤◌, ◌∷◌, drop, true, false, MatchOption, IfSome};
 ghost use Rattle.json.specs.Token.{begin_array, begin_object};
 ghost use Rattle.jp_doc.specs.Reading.{max_line, has_long_array};
-ghost use Rattle.jp_flat.specs.Document.{document_tokens};
+ghost use Rattle.jp_flat.specs.Document.{document_source, document_tokens};
 ghost use Rattle.jp_flat.specs.inner.Held.{HasPiece};
 ghost use Rattle.jp_flat.specs.inner.Plain.{is_fit_number, is_flat};
 ghost use Rattle.jp_flat_nodes.specs.Nodes.{token_at};
@@ -110,8 +110,8 @@ impl<'d> FlatValue<'d> {
     #[inline(always)]
     fn node(self) -> FlatNode
         ensures token { tokens_of self.entry
-            ≡ token_at self.entry.document.now.text.now result ∷ drop 1 (tokens_of self.entry) }
-        ensures piece { HasPiece self.entry.document.now.text.now result }
+            ≡ token_at (document_source self.entry.document.now) result ∷ drop 1 (tokens_of self.entry) }
+        ensures piece { HasPiece (document_source self.entry.document.now) result }
     {
         self.document.node(self.at)
     }
@@ -130,6 +130,9 @@ impl<'d> FlatValue<'d> {
                 at: self.at + 1,
             }),
             FlatNode::Text(from, count) => FlatKind::Text(self.document.piece(from, count)),
+            FlatNode::Escaped(from, count) => {
+                FlatKind::Text(self.document.unescaped(from, count))
+            }
             FlatNode::Number(from, count) => FlatKind::Number(FlatNumber {
                 digits: self.document.piece(from, count),
             }),
@@ -144,6 +147,7 @@ impl<'d> FlatValue<'d> {
     {
         match self.node() {
             FlatNode::Text(from, count) => Some(self.document.piece(from, count)),
+            FlatNode::Escaped(from, count) => Some(self.document.unescaped(from, count)),
             _ => None,
         }
     }
@@ -311,9 +315,8 @@ impl<'d> FlatMembers<'d> {
         ensures fewer { IfSome result (λ p. members_left p.1 < members_left self.entry) }
     {
         let (document, at) = (self.document, self.at);
-        match document.node(at) {
-            FlatNode::Key(from, count) => {
-                let name = document.piece(from, count);
+        match document.name(document.node(at)) {
+            Some(name) => {
                 let end = document.after(at + 1);
                 let value = FlatValue {
                     document,
@@ -324,7 +327,7 @@ impl<'d> FlatMembers<'d> {
                     FlatMembers { document, at: end },
                 ))
             }
-            _ => None,
+            None => None,
         }
     }
 
