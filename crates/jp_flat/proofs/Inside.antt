@@ -53,7 +53,8 @@ array_inside ts f js e = record {
 
 array_shape : (ts : List Token) (f : Flat (Token.begin_array ∷ ts))
     → (js : text.Items) × (f.source ≡ text.array js)
-array_shape ts f = shape (source [] []) (Array 0) ts f.source max_depth f.rest (read_of_flat (Token.begin_array ∷ ts) f)
+array_shape ts f =
+    shape (source [] []) (Array 0) ts f.source max_depth f.rest (read_of_flat (Token.begin_array ∷ ts) f)
 
 -- inside of an array
 pub in_items : (ts : List Token) → is_flat (Token.begin_array ∷ ts) ≡ true → InItems ts

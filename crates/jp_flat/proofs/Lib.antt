@@ -23,7 +23,8 @@ pub mod WholeFaults
 pub mod Faults
 pub mod Decimal
 pub mod ReadNumbers
-pub mod Opening
+pub mod Naming
+mod Opening
 pub mod Pieces
 pub mod Close
 pub mod ReadNodes

@@ -2,9 +2,10 @@
 
 ghost use Rattle.std.specs.Prelude.{◌≡◌, ℕ, ◌+◌, ◌<◌, ◌≤◌, List, ◌∷◌, drop, length, Some};
 ghost use Rattle.json.specs.Json.{Json, value};
+ghost use Rattle.json.specs.Print.{quoted};
 ghost use Rattle.json.specs.Token.{Token};
 ghost use Rattle.jp_flat.specs.inner.Held.{HasPiece, IsHeld, IsPiece};
-ghost use Rattle.jp_flat_nodes.specs.Nodes.{piece, source, token_at, tokens_at};
+ghost use Rattle.jp_flat_nodes.specs.Nodes.{IsPlain, piece, source, token_at, tokens_at};
 
 use crate::value::FlatValue;
 use jp_flat_nodes::FlatNode;
@@ -83,6 +84,16 @@ impl<'a> FlatDocument<'a> {
         ensures { result.now ≡ piece self.now.texts.now from count }
     {
         piece_of(self.texts, from, count)
+    }
+
+    /// So many bytes of the line from a place on, which are plain, between their quotes.
+    #[inline(always)]
+    pub(crate) fn quoted(&self, from: u32, count: u32) -> &'a [u8]
+        requires { IsPlain self.now.line.now from count }
+        ensures { result.now ≡ quoted (piece self.now.line.now from count) }
+    {
+        let (from, count) = (from as usize, count as usize);
+        &self.line[from - 1..from + count + 1]
     }
 
     /// The name that a node is, if it is one.

@@ -4,7 +4,7 @@ ghost use Rattle.std.specs.Prelude.{◌≡◌, ℕ, ◌<◌, ◌≤◌, ◌∷�
 ghost use Rattle.json.specs.Token.{begin_array, begin_object};
 ghost use Rattle.jp_doc.specs.Reading.{max_line, has_long_array};
 ghost use Rattle.jp_flat.specs.Document.{document_source, document_tokens};
-ghost use Rattle.jp_flat.specs.inner.Held.{HasPiece};
+ghost use Rattle.jp_flat.specs.inner.Held.{HasPiece, IsNamed};
 ghost use Rattle.jp_flat.specs.inner.Plain.{is_fit_number, is_flat};
 ghost use Rattle.jp_flat_nodes.specs.Nodes.{token_at};
 
@@ -44,6 +44,7 @@ pub struct FlatMember<'d> {
     pub name: &'d str,
     /// Its value.
     pub value: FlatValue<'d>,
+    ghost named: { ∥ IsNamed (document_tokens value.document.now) value.at name.now ∥₁ },
 }
 
 /// A number as it stands in the line.
@@ -96,7 +97,7 @@ impl<'d> FlatValue<'d> {
     ghost use Rattle.jp_doc.specs.DocumentValue.{whole_in};
     ghost use Rattle.jp_doc.specs.Location.{member_of, item_of};
     ghost use Rattle.jp_flat.specs.Value.{flat_value, tokens_of, items_value, members_value, text_in};
-    ghost use Rattle.jp_flat.specs.Value.{number_in, item_count, IsKind, IsNoArray, IsNoObject};
+    ghost use Rattle.jp_flat.specs.Value.{IsQuotedText, number_in, item_count, IsKind, IsNoArray, IsNoObject};
     ghost use Rattle.jp_number.specs.View.{number_of};
 
     /// The whole value of a document.
@@ -148,6 +149,19 @@ impl<'d> FlatValue<'d> {
         match self.node() {
             FlatNode::Text(from, count) => Some(self.document.piece(from, count)),
             FlatNode::Escaped(from, count) => Some(self.document.unescaped(from, count)),
+            _ => None,
+        }
+    }
+
+    /// The text between its quotes, as it is printed (RFC 8259, 7), where the value is one that stands so in the
+    /// line. `None` says nothing.
+    // Each text that is written is asked for so.
+    #[inline(always)]
+    pub fn quoted(self) -> Option<&'d [u8]>
+        ensures { IfSome result (λ s. IsQuotedText s.now (flat_value self.entry)) }
+    {
+        match self.node() {
+            FlatNode::Text(from, count) => Some(self.document.quoted(from, count)),
             _ => None,
         }
     }
@@ -237,6 +251,26 @@ impl<'d> FlatValue<'d> {
         match self.members() {
             Some(members) => members.last(name),
             None => None,
+        }
+    }
+}
+
+impl<'d> FlatMember<'d> {
+    ghost use Rattle.std.specs.Prelude.{encode_utf8_all};
+    ghost use Rattle.std.specs.Str.{chars};
+    ghost use Rattle.json.specs.Print.{quoted};
+
+    /// The name between its quotes, as it is printed (RFC 8259, 7), where it stands so in the line. `None` says
+    /// nothing.
+    // Each name that is written is asked for so.
+    #[inline(always)]
+    pub fn quoted_name(self) -> Option<&'d [u8]>
+        ensures { IfSome result (λ s. s.now ≡ quoted (encode_utf8_all (chars self.entry.name.now))) }
+    {
+        let value = self.value;
+        match value.document.node(value.at - 1) {
+            FlatNode::Key(from, count) => Some(value.document.quoted(from, count)),
+            _ => None,
         }
     }
 }

@@ -1,5 +1,5 @@
 -- What is always so of the nodes of a flat document: a working file, which nobody has to believe.
-use Rattle.std.specs.Prelude.{◌≡◌, ℕ, ◌+◌, ◌≤◌, true, List, length, get_or, Result}
+use Rattle.std.specs.Prelude.{◌≡◌, ℕ, ◌+◌, ◌-◌, ◌<◌, ◌≤◌, true, List, ◌∷◌, length, drop, get_or, Result}
 use Rattle.std.specs.Str.{is_utf8}
 use Rattle.json.specs.Token.{Token, key}
 use Rattle.jp_doc.specs.Json.{Json}
@@ -29,6 +29,10 @@ HasPiece src (Escaped from count) = IsPiece src.texts from count
 HasPiece src (Number from count) = IsPiece src.line from count
 HasPiece src (Truth b) = Unit {0}
 HasPiece src Null = Unit {0}
+
+-- a name stands there before a value
+abbrev pub IsNamed : List Token → ℕ → List ℕ → Type 0
+IsNamed all at name = (0 < at) × (drop (at - 1) all ≡ key name ∷ drop at all)
 
 -- no name
 abbrev pub IsNoKey : Token → Type 0

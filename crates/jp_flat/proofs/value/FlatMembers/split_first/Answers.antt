@@ -1,4 +1,4 @@
-use Rattle.std.proofs.Common.{◌≡◌, ℕ, List, ◌+◌, ◌∷◌, drop, ap, ◌∙◌, subst, sym, arith}
+use Rattle.std.proofs.Common.{◌≡◌, ℕ, List, ◌+◌, ◌-◌, ◌∷◌, drop, ap, ◌∙◌, subst, sym, arith}
 use Rattle.std.proofs.lemmas.List.{length-map}
 use Rattle.json.specs.Token.{key}
 use Rattle.jp_flat.specs.Document.{document_source, document_tokens}
@@ -34,6 +34,14 @@ invariant_of-value c =
 
 pub invariant_of-result : goal.invariant_of-result
 invariant_of-result c =
+    let m = c.args.self in
+    let all = document_tokens m.document.now in
+    let back : m.at + 1 - 1 ≡ m.at = omega arith in
+    let here = behind m c.node.result _ c.node.ensures.token c.in-Some.ensures in
+    record { named = ∣ (omega arith, ap (λ k. drop k all) back ∙ here) ∣₁ }
+
+pub invariant_of-result-in-Some : goal.invariant_of-result-in-Some
+invariant_of-result-in-Some c =
     let here = behind c.args.self c.node.result _ c.node.ensures.token c.in-Some.ensures in
     record { flat = (split_members _ _ _ _ c.args.self.flat here c.after-end.ensures.value).after_flat }
 
