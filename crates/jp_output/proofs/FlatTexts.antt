@@ -1,5 +1,5 @@
 -- The texts of arrays and objects, a piece at a time.
-use Rattle.std.proofs.Common.{◌≡◌, ℕ, ◌≤◌, Bool, true, false, List, [], ◌∷◌, ◌++◌, refl, ap, sym, subst}
+use Rattle.std.proofs.Common.{◌≡◌, ℕ, ◌<◌, ◌≤◌, Bool, true, false, List, [], ◌∷◌, ◌++◌, refl, ap, sym, subst}
 use Rattle.std.proofs.Common.{◌∙◌, append_assoc, arith}
 use Rattle.std.proofs.lemmas.Bool.{and_parts}
 use Rattle.std.proofs.lemmas.Bool.Decides.{nat_tests}
@@ -81,3 +81,8 @@ pub left_height : (m : FlatMember) (list left : List FlatMember) (n : ℕ) → l
     → height (object (gathered list)) ≤ n → height (object (gathered left)) ≤ n
 left_height m list left n is h =
     let e = ap (λ l. height (object (gathered l))) is in omega (arith, e, h)
+
+pub first_height : (m : FlatMember) (list left : List FlatMember) (n : ℕ) → list ≡ m ∷ left
+    → height (object (gathered list)) ≤ n → height (flat_value m.value) < n
+first_height m list left n is h =
+    let e = ap (λ l. height (object (gathered l))) is in omega (arith, h, e)
