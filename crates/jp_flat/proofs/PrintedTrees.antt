@@ -204,7 +204,8 @@ printed_flat s v p =
       fit = printed_fits s v p;
     }
 
-pub laid_printed : (s : List ℕ) (bytes : Source) (nodes : List FlatNode) (tape : List Token) (v : Json) → IsPrinted s v
+pub laid_printed : (s : List ℕ) (bytes : Source) (nodes : List FlatNode) (tape : List Token) (v : Json)
+    → IsPrinted s v
     → tape ≡ tokens s → tokens_at bytes nodes ≡ tape → AreLinked tape nodes → AreWithin bytes nodes
     → IsReadAs (Ok v) bytes nodes
 unfolding printed_flat

@@ -112,7 +112,8 @@ pub few_nodes : (line : List ℕ) (bytes : Source) (nodes : List FlatNode) → t
 few_nodes line bytes nodes are short =
     omega (arith, ap length are, length-map nodes (token_at bytes), few_tokens line, short)
 
-pub held : (line : List ℕ) (bytes : Source) (nodes : List FlatNode) → tokens_at bytes nodes ≡ tokens line → IsUtf8 line
+pub held : (line : List ℕ) (bytes : Source) (nodes : List FlatNode) → tokens_at bytes nodes ≡ tokens line
+    → IsUtf8 line
     → AreLinked (tokens line) nodes → AreWithin bytes nodes → is_flat (tokens line) ≡ true
     → IsHeld bytes nodes
 held line bytes nodes are u linked within flat = record {
@@ -148,7 +149,8 @@ read_grammar src nodes r u short =
     }
 
 -- a line that the kit has read, and whose nodes were laid
-pub laid_whole : (line : List ℕ) (bytes : Source) (nodes : List FlatNode) (tape : List Token) → tape ≡ tokens line
+pub laid_whole : (line : List ℕ) (bytes : Source) (nodes : List FlatNode) (tape : List Token)
+    → tape ≡ tokens line
     → IsSome (text.document line) → tokens_at bytes nodes ≡ tape → AreLinked tape nodes
     → AreWithin bytes nodes → IsUtf8 line → length line ≤ max_line
     → is_plain_from 0 tape ≡ true → IsReadAs (reading line) bytes nodes
@@ -162,7 +164,8 @@ laid_whole line bytes nodes tape is some same linked within u short plain =
       value = flat.reads ∙ ap (λ ts. unless_long (value_at ts)) (sym are);
     }
 
-pub laid_grammar : (line : List ℕ) (bytes : Source) (nodes : List FlatNode) (tape : List Token) → tape ≡ tokens line
+pub laid_grammar : (line : List ℕ) (bytes : Source) (nodes : List FlatNode) (tape : List Token)
+    → tape ≡ tokens line
     → IsSome (text.document line) → tokens_at bytes nodes ≡ tape → AreLinked tape nodes
     → AreWithin bytes nodes → IsUtf8 line → length line ≤ max_line
     → pass_fault tape ≡ None → IsReadAs (reading_in Decimals line) bytes nodes

@@ -2,10 +2,10 @@
 
 ghost use Rattle.std.specs.Prelude.{◌≡◌, ℕ, ◌+◌, ◌<◌, ◌≤◌, List, ◌∷◌, drop, length, Some};
 ghost use Rattle.json.specs.Json.{Json, value};
-ghost use Rattle.json.specs.Print.{quoted};
+ghost use Rattle.json.specs.Print.{quoted, token_text};
 ghost use Rattle.json.specs.Token.{Token};
 ghost use Rattle.jp_flat.specs.inner.Held.{HasPiece, IsHeld, IsPiece};
-ghost use Rattle.jp_flat_nodes.specs.Nodes.{IsPlain, piece, source, token_at, tokens_at};
+ghost use Rattle.jp_flat_nodes.specs.Nodes.{IsPlain, IsPlainName, piece, source, token_at, tokens_at};
 
 use crate::value::FlatValue;
 use jp_flat_nodes::FlatNode;
@@ -94,6 +94,16 @@ impl<'a> FlatDocument<'a> {
     {
         let (from, count) = (from as usize, count as usize);
         &self.line[from - 1..from + count + 1]
+    }
+
+    /// A name that stands so, with its colon.
+    #[inline(always)]
+    pub(crate) fn quoted_name(&self, from: u32, count: u32) -> &'a [u8]
+        requires { IsPlainName self.now.line.now from count }
+        ensures { result.now ≡ token_text (key (piece self.now.line.now from count)) }
+    {
+        let (from, count) = (from as usize, count as usize);
+        &self.line[from - 1..from + count + 2]
     }
 
     /// The name that a node is, if it is one.

@@ -258,18 +258,19 @@ impl<'d> FlatValue<'d> {
 impl<'d> FlatMember<'d> {
     ghost use Rattle.std.specs.Prelude.{encode_utf8_all};
     ghost use Rattle.std.specs.Str.{chars};
-    ghost use Rattle.json.specs.Print.{quoted};
+    ghost use Rattle.json.specs.Print.{token_text};
+    ghost use Rattle.json.specs.Token.{key};
 
-    /// The name between its quotes, as it is printed (RFC 8259, 7), where it stands so in the line. `None` says
-    /// nothing.
+    /// The name between its quotes and the colon, as they are printed (RFC 8259, 4 and 7), where they stand so in
+    /// the line. `None` says nothing.
     // Each name that is written is asked for so.
     #[inline(always)]
     pub fn quoted_name(self) -> Option<&'d [u8]>
-        ensures { IfSome result (λ s. s.now ≡ quoted (encode_utf8_all (chars self.entry.name.now))) }
+        ensures { IfSome result (λ s. s.now ≡ token_text (key (encode_utf8_all (chars self.entry.name.now)))) }
     {
         let value = self.value;
         match value.document.node(value.at - 1) {
-            FlatNode::Key(from, count) => Some(value.document.quoted(from, count)),
+            FlatNode::Key(from, count) => Some(value.document.quoted_name(from, count)),
             _ => None,
         }
     }

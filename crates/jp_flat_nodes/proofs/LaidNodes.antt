@@ -1,10 +1,12 @@
 -- What stands among the texts stands there still when more is put behind, and links are those of the kit.
-use Rattle.std.proofs.Common.{◌≡◌, ℕ, ◌+◌, ◌-◌, ◌<◌, ◌≤◌, List, [], ◌∷◌, ◌++◌, length, map, take, drop, get_or}
+use Rattle.std.proofs.Common.{◌≡◌, ℕ, ◌+◌, ◌-◌, ◌<◌, ◌≤◌, List, [], ◌∷◌, ◌++◌, length, map, take, drop}
+use Rattle.std.proofs.Common.{get_or}
 use Rattle.std.proofs.Common.{Some, None, inl, inr, ◌⊎◌, refl, sym, ap, ap₂, ◌∙◌, subst, arith}
 use Rattle.std.proofs.Common.{length-append, length-drop}
 use Rattle.std.proofs.lemmas.Bool.{cases_lt}
 use Rattle.std.proofs.lemmas.List.{take-append-le, drop-append-le, map-append, get_or_past, get_or-map}
 use Rattle.std.proofs.lemmas.List.{length-map}
+use Rattle.std.proofs.Math.ListN.{get_or-append}
 use Rattle.json.specs.Print.{quoted}
 use Rattle.json.specs.Tape.{node_token, Linked, LinkAt, Passes}
 use Rattle.json.specs.Token as token
@@ -47,7 +49,7 @@ token_stays text more EndObject h = refl
 token_stays text more (Array end) h = refl
 token_stays text more EndArray h = refl
 token_stays text more (Key from count) h =
-    ap token.key (piece_stays text more from count (omega (arith, h.before)))
+    ap token.key (piece_stays text more from count (omega (arith, h.0.before)))
 token_stays text more (Text from count) h =
     ap token.string (piece_stays text more from count (omega (arith, h.before)))
 token_stays text more (EscapedKey from count) h = ap token.key (piece_stays text more from count h)
@@ -62,13 +64,23 @@ tokens_stay text more [] h = refl
 tokens_stay text more (n ∷ ns) h =
     ap₂ (λ t ts. t ∷ ts) (token_stays text more n h.0) (tokens_stay text more ns h.1)
 
+colon_inside : (text : List ℕ) (i : ℕ) → get_or text i 0 ≡ 58 → i < length text
+colon_inside text i e = go (cases_lt i (length text))
+  where
+    go : (i < length text) ⊎ (length text ≤ i) → i < length text
+    go (inl lt) = lt
+    go (inr ge) = absurd (omega (arith, e, get_or_past text i 0 ge))
+
 stays_within : (text more : List ℕ) (n : FlatNode) → IsWithin (laid_in text) n
     → IsWithin (laid_in (text ++ more)) n
 stays_within text more (Object end) h = tt
 stays_within text more EndObject h = tt
 stays_within text more (Array end) h = tt
 stays_within text more EndArray h = tt
-stays_within text more (Key from count) h = plain_stays text more from count h
+stays_within text more (Key from count) h = (
+  plain_stays text more from count h.0,
+  get_or-append text more 0 (from + count + 1) (colon_inside text (from + count + 1) h.1) ∙ h.1,
+)
 stays_within text more (Text from count) h = plain_stays text more from count h
 stays_within text more (EscapedKey from count) h = omega (arith, h, length-append text more)
 stays_within text more (Escaped from count) h = omega (arith, h, length-append text more)

@@ -42,7 +42,8 @@ nothing_yet src start cursor bracket opened first state blanks = record {
 -- these and a value more, with a comma behind it
 one_more : (src : Source) (start cursor end next : ℕ) (bracket : Token) (opened now new : List FlatNode)
     (made ts : List Token) (j : Json) → SoFar src start cursor bracket opened now made
-    → begin (ts ++ json_tokens j) ≡ true → cursor < end → Prints src.line false cursor end (ts ++ json_tokens j)
+    → begin (ts ++ json_tokens j) ≡ true → cursor < end → Prints src.line false cursor end (ts ++
+    json_tokens j)
     → Grows src now new (ts ++ json_tokens j) → drop end src.line ≡ 44 ∷ drop (end + 1) src.line
     → Blanks src.line (end + 1) next → SoFar src start next bracket opened new (made ++ (ts ++ json_tokens j))
 one_more src start cursor end next bracket opened now new made ts j s some later text grows comma blanks =
@@ -90,7 +91,8 @@ pub items_begin : (src : Source) (decimals : Bool) (start cursor depth : ℕ) (o
 items_begin src decimals start cursor depth opened inside byte blanks = record {
   made = [];
   so_far = nothing_yet src start cursor begin_array opened
-      (here src.line false start (start + 1) begin_array refl (byte_then src.line start 91 inside byte)) refl blanks;
+      (here src.line false start (start + 1) begin_array refl (byte_then src.line start 91 inside byte))
+      refl blanks;
   whole = λ js. js;
   tokens = λ js. refl;
   nests = λ js h. h;
@@ -169,7 +171,8 @@ items_close src decimals start cursor end stop depth old opened now new final pl
     append_assoc s.made (json_tokens v.value) (end_array ∷ []) ∙ s.tokens (item v.value no_items) in
     let text = all_text src start cursor end (stop + 1) begin_array end_array opened now s.made [] v.value
     s.so_far (value_begins v.value) v.text
-    (one src.line true end stop (stop + 1) end_array refl blanks (byte_then src.line stop 93 within closing)) in
+    (one src.line true end stop (stop + 1) end_array refl blanks (byte_then src.line stop 93 within
+    closing)) in
     record {
       value = array js;
       later = omega (arith, s.so_far.later, v.later, blanks.later);
@@ -325,7 +328,8 @@ members_close src decimals start cursor end stop depth old opened now new final 
     append_assoc s.made more (end_object ∷ []) ∙ s.tokens (member m.name m.value no_members) in
     let text = all_text src start cursor end (stop + 1) begin_object end_object opened now s.made
     (key m.name ∷ []) m.value s.so_far refl m.text
-    (one src.line true end stop (stop + 1) end_object refl blanks (byte_then src.line stop 125 within closing)) in
+    (one src.line true end stop (stop + 1) end_object refl blanks (byte_then src.line stop 125 within
+    closing)) in
     record {
       value = object ms;
       later = omega (arith, s.so_far.later, m.later, blanks.later);

@@ -106,7 +106,8 @@ control_read line at byte high low inside first zeros more h l same =
       later = omega arith;
       inside = omega arith;
       text = byte_then line at 92 inside first
-          ∙ ap (λ l. 92 ∷ l) (zeros ∙ ap (λ l. 117 ∷ 48 ∷ 48 ∷ l) (byte_then line (at + 4) high (omega arith) h
+          ∙ ap (λ l. 92 ∷ l) (zeros ∙ ap (λ l. 117 ∷ 48 ∷ 48 ∷ l) (byte_then line (at + 4) high (omega
+          arith) h
           ∙ ap (λ k. high ∷ drop k line) next
           ∙ ap (λ l. high ∷ l) (byte_then line (at + 5) low more l ∙ ap (λ k. low ∷ drop k line) end)))
           ∙ ap (λ l. l ++ drop (at + 6) line) (sym same);

@@ -54,7 +54,8 @@ passes all i end s =
 -- the line is a value's text, behind blanks
 pub whole_line : (src : Source) (decimals : Bool) (from end : ℕ) (empty nodes : List FlatNode)
     → Blanks src.line 0 from
-    → Reads src decimals from end 127 empty nodes → end ≡ length src.line → empty ≡ [] → length nodes ≤ 268435456
+    → Reads src decimals from end 127 empty nodes → end ≡ length src.line → empty ≡ []
+    → length nodes ≤ 268435456
     → IsRead decimals src nodes
 whole_line src decimals from end empty nodes blanks r all none few =
     let p = behind src.line 0 from end (json_tokens r.value) (value_begins r.value) blanks r.text in

@@ -70,13 +70,17 @@ pub record IsPlain (line : List ℕ) (from count : ℕ) : Type 0 where
   pub before : from + count < length line
   pub is : piece line (from - 1) (count + 2) ≡ quoted (piece line from count)
 
+-- a name that stands so, and a colon right behind it
+abbrev pub IsPlainName : List ℕ → ℕ → ℕ → Type 0
+IsPlainName line from count = IsPlain line from count × (get_or line (from + count + 1) 0 ≡ 58)
+
 -- a node's text lies where it is told to be
 abbrev pub IsWithin : Source → FlatNode → Type 0
 IsWithin src (Object end) = Unit {0}
 IsWithin src EndObject = Unit {0}
 IsWithin src (Array end) = Unit {0}
 IsWithin src EndArray = Unit {0}
-IsWithin src (Key from count) = IsPlain src.line from count
+IsWithin src (Key from count) = IsPlainName src.line from count
 IsWithin src (Text from count) = IsPlain src.line from count
 IsWithin src (EscapedKey from count) = from + count ≤ length src.texts
 IsWithin src (Escaped from count) = from + count ≤ length src.texts

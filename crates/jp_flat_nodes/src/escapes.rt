@@ -89,8 +89,8 @@ fn read_escape(line: &[u8], at: usize) -> Option<Escape>
     Some(Escape { byte, end: at + 6 })
 }
 
-/// Puts the text that begins here behind the others, without its escapes: the place of the quote that ends it,
-/// or `REFUSED`.
+/// Puts the text that begins here behind the others, without its escapes, and gives the place of the quote that
+/// ends it, or `REFUSED`.
 fn unescaped_end(line: &[u8], from: usize, texts: &mut Vec<u8>) -> usize
     requires { (length line.now < 2 ^ 32) × (from ≤ length line.now) }
     ensures written { result < length line.now

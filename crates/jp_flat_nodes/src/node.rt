@@ -19,9 +19,10 @@ pub enum FlatNode {
     Array(u32),
     /// It ends.
     EndArray,
-    /// A member's name, which stands between its quotes in the line and has no escape.
+    /// A member's name, which stands between its quotes in the line and has no escape; a colon stands right
+    /// behind it.
     Key(u32, u32),
-    /// A text, likewise.
+    /// A text that stands so.
     Text(u32, u32),
     /// A member's name that stands without its escapes beside the line.
     EscapedKey(u32, u32),

@@ -1,6 +1,6 @@
 //! The compact text of a value (RFC 8259), appended piece by piece.
 
-ghost use Rattle.std.specs.Prelude.{◌≡◌, ◌++◌, OnOk};
+ghost use Rattle.std.specs.Prelude.{◌≡◌, ◌++◌, ◌∷◌, [], OnOk};
 ghost use Rattle.std.specs.Str.{chars};
 ghost use Rattle.jp_doc.specs.Json.{Items, array, object};
 ghost use Rattle.jp_flat.specs.Gathered.{gathered};
@@ -41,19 +41,24 @@ pub(crate) fn append_value(
     }
 }
 
-/// Appends the name of a member.
+/// Appends the name of a member, and the colon.
 fn append_name(
     alloc: Global,
     member: FlatMember<'_>,
     scratch: &mut Vec<u8>,
     out: &mut Vec<u8>,
 ) -> Result<(), AllocError>
-    ensures ok { OnOk result (out.new.items ≡ out.old.items ++ quoted_text (chars member.entry.name.now)) }
+    ensures ok { OnOk result (out.new.items
+        ≡ out.old.items ++ (quoted_text (chars member.entry.name.now) ++ 58 ∷ [])) }
     ensures kept { Extends out.old.items out.new.items }
 {
     match member.quoted_name() {
         Some(name) => out.extend_from_slice(name),
-        None => append_quoted(alloc, member.name, scratch, out),
+        None => {
+            append_quoted(alloc, member.name, scratch, out)?;
+            out.push(b':')?;
+            Ok(())
+        }
     }
 }
 
@@ -125,7 +130,6 @@ fn append_list(
     for member in list {
         append_comma(later, out)?;
         append_name(alloc, *member, scratch, out)?;
-        out.push(b':')?;
         append_value(alloc, member.value, scratch, out)?;
         later = true;
     }

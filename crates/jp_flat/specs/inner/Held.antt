@@ -7,7 +7,7 @@ use Rattle.jp_doc.specs.Reading.{unless_long}
 use Rattle.jp_doc.specs.declared.fault.DocFault.{DocFault}
 use Rattle.jp_flat.specs.Flat.{value_at}
 use Rattle.jp_flat.specs.inner.Plain.{is_flat}
-use Rattle.jp_flat_nodes.specs.Nodes.{Source, piece, tokens_at, AreLinked, IsPlain}
+use Rattle.jp_flat_nodes.specs.Nodes.{Source, piece, tokens_at, AreLinked, IsPlain, IsPlainName}
 use Rattle.jp_flat_nodes.specs.declared.node.FlatNode.{FlatNode}
 use Rattle.jp_flat_nodes.specs.declared.node.FlatNode.TheVariants.{Object, EndObject, Array, EndArray, Key}
 use Rattle.jp_flat_nodes.specs.declared.node.FlatNode.TheVariants.{Text, EscapedKey, Escaped}
@@ -22,7 +22,7 @@ HasPiece src (Object end) = Unit {0}
 HasPiece src EndObject = Unit {0}
 HasPiece src (Array end) = Unit {0}
 HasPiece src EndArray = Unit {0}
-HasPiece src (Key from count) = IsPiece src.line from count × IsPlain src.line from count
+HasPiece src (Key from count) = IsPiece src.line from count × IsPlainName src.line from count
 HasPiece src (Text from count) = IsPiece src.line from count × IsPlain src.line from count
 HasPiece src (EscapedKey from count) = IsPiece src.texts from count
 HasPiece src (Escaped from count) = IsPiece src.texts from count

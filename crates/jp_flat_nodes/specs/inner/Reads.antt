@@ -88,7 +88,8 @@ pub record GoesOn (front all : List ℕ) : Type 0 where
 abbrev pub ReadsOn : List ℕ → Bool → ℕ → ℕ → ℕ → FlatNodes → FlatNodes → Type 0
 ReadsOn line decimals at end depth old new =
     (all : List ℕ) → GoesOn new.texts.items all
-    → GoesOn old.texts.items all × Reads (source line all) decimals at end depth old.nodes.items new.nodes.items
+    → GoesOn old.texts.items all × Reads (source line all) decimals at end depth old.nodes.items
+    new.nodes.items
 
 abbrev pub ReadsKeyOn : List ℕ → ℕ → ℕ → FlatNodes → FlatNodes → Type 0
 ReadsKeyOn line at end old new =

@@ -14,4 +14,5 @@ pub returns-then-read_line : goal.returns-then-read_line
 returns-then-read_line c =
     let line = c.args.line.now in
     let short : length line ≤ max_line = omega arith in
-    read_whole (source line c.read_line.new.out.texts.items) c.read_line.new.out.nodes.items (c.if-read_line.ensures refl) c.in-Ok.ensures.1 short
+    read_whole (source line c.read_line.new.out.texts.items) c.read_line.new.out.nodes.items
+    (c.if-read_line.ensures refl) c.in-Ok.ensures.1 short

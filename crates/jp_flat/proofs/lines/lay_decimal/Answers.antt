@@ -51,7 +51,8 @@ returns-in_ok-lay-in-Ok c =
     let same = c.nodes-in-Ok.ensures.tokens in
     let none : pass_fault tape ≡ None = ap pass_fault (sym c.nodes.ensures.tokens)
     ∙ sym c.fault_in.ensures ∙ c.in-None.is in
-    laid_grammar c.args.text.now (source c.lay.new.out.texts.items c.lay.new.out.texts.items) c.lay.new.out.nodes.items tape read.0 read.1
+    laid_grammar c.args.text.now (source c.lay.new.out.texts.items c.lay.new.out.texts.items)
+    c.lay.new.out.nodes.items tape read.0 read.1
     (laid.tokens ∙ same) (subst (λ ts. AreLinked ts c.lay.new.out.nodes.items) same laid.linked) laid.within
     c.utf8.text c.requires none
 

@@ -39,7 +39,8 @@ returns-in_ok-lay-in-Ok c =
     let same = c.nodes-in-Ok.ensures.tokens in
     let passes : is_plain_from 0 (map node_token c.nodes.result.now) ≡ true = grind arith in
     let plain : is_plain_from 0 tape ≡ true = ap (is_plain_from 0) (sym c.nodes.ensures.tokens) ∙ passes in
-    laid_whole c.args.text.now (source c.lay.new.out.texts.items c.lay.new.out.texts.items) c.lay.new.out.nodes.items tape read.0 read.1
+    laid_whole c.args.text.now (source c.lay.new.out.texts.items c.lay.new.out.texts.items)
+    c.lay.new.out.nodes.items tape read.0 read.1
     (laid.tokens ∙ same) (subst (λ ts. AreLinked ts c.lay.new.out.nodes.items) same laid.linked) laid.within
     c.utf8.text c.requires plain
 

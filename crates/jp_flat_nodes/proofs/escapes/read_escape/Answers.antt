@@ -12,5 +12,8 @@ pub returns : goal.returns
 returns c =
     let more = c.if-not-goes_on.ensures refl in
     control_read c.args.line.now c.args.at c.in_ok-byte.byte c.byte_at-2.result c.byte_at-3.result
-    c.requires.1 c.requires.2 more.1 (c.byte_at-3.ensures.within (λ e. omega (arith, c.in_ok-byte.ensures.some)))
+    c.requires.1 c.requires.2 more.1 (c.byte_at-3.ensures.within (λ e. omega (
+      arith,
+      c.in_ok-byte.ensures.some,
+    )))
     (sym c.byte_at-2.ensures.value) (sym c.byte_at-3.ensures.value) c.in_ok-byte.ensures.value

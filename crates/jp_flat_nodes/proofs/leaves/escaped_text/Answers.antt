@@ -17,7 +17,8 @@ returns c h all g =
     let here = stands_behind _ _ all w.more c.in-Some.text.from c.in-Some.text.count w.behind g u.begins
     u.counts in (
       goes_on_before _ _ all w.more w.behind g,
-      subst (λ e. Reads src c.args.decimals at e c.args.depth c.args.out.now.nodes.items c.put.new.nodes.items)
+      subst (λ e. Reads src c.args.decimals at e c.args.depth c.args.out.now.nodes.items
+          c.put.new.nodes.items)
           (sym put.0)
           (text_leaf src c.args.decimals at _ c.args.depth _ _ (Escaped c.in-Some.text.from
           c.in-Some.text.count) w.more

@@ -16,7 +16,8 @@ returns-then-goes_on c h all g =
     let more = c.if-goes_on.ensures refl in
     let src = source line all in (
       g,
-      subst (λ e. Reads src c.args.decimals at e c.args.depth c.args.out.now.nodes.items c.put.new.nodes.items)
+      subst (λ e. Reads src c.args.decimals at e c.args.depth c.args.out.now.nodes.items
+          c.put.new.nodes.items)
           (sym put.0)
           (leaf src c.args.decimals at (at + 4) c.args.depth _ _ (Truth true) (boolean true)
           (token.boolean true) (omega arith)

@@ -17,7 +17,8 @@ returns c h all more =
     let put = c.put.ensures (omega arith) in
     let same : count ≡ stop - (at + 1) = omega arith in (
       more,
-      subst (λ e. Reads src c.args.decimals at e c.args.depth c.args.out.now.nodes.items c.put.new.nodes.items)
+      subst (λ e. Reads src c.args.decimals at e c.args.depth c.args.out.now.nodes.items
+          c.put.new.nodes.items)
           (sym put.0)
           (text_leaf src c.args.decimals at (stop + 1) c.args.depth _ _ (Text (at + 1) count)
           (piece line (at + 1) (stop - (at + 1)))

@@ -66,7 +66,12 @@ array-loop-cursor-preserved t c =
                 (blanks line (c.blanks_end-stop.result + 1) c.blanks_end-cursor-in-44.result
                 c.blanks_end-cursor-in-44.ensures)),
           );
-      place = omega (arith, c.loop-cursor.invariant.place, value_grown line _ _ _ _ c.loop-cursor.out c.value-end.new.out v);
+      place = omega (
+        arith,
+        c.loop-cursor.invariant.place,
+        value_grown line _ _ _ _ c.loop-cursor.out
+            c.value-end.new.out v,
+      );
     }
 
 pub array-close_array-requires-in-93 : goal.array-close_array-requires-in-93
@@ -96,7 +101,8 @@ array-returns-in-93 t c h all g =
       subst (λ e. Reads src c.args.decimals c.args.at e
           (c.args.depth + 1) old c.close_array-in-93.new.nodes.items)
           (sym closed.0)
-          (items_close src c.args.decimals c.args.at c.loop-cursor.cursor c.value-end.result stop c.args.depth old
+          (items_close src c.args.decimals c.args.at c.loop-cursor.cursor c.value-end.result stop
+          c.args.depth old
           c.push.new.nodes.items c.loop-cursor.out.nodes.items c.value-end.new.out.nodes.items
           c.close_array-in-93.new.nodes.items c.len-place.result s.1 r.1
           (blanks line c.value-end.result stop c.blanks_end-stop.ensures) within
@@ -131,7 +137,8 @@ object-loop-cursor-init t c =
     record {
       members = λ all g. (
         g,
-        members_begin (source line all) c.args.decimals c.args.at c.blanks_end-cursor.result c.args.depth opened
+        members_begin (source line all) c.args.decimals c.args.at c.blanks_end-cursor.result c.args.depth
+            opened
             (omega arith)
             c.requires.1 (blanks line (c.args.at + 1) c.blanks_end-cursor.result c.blanks_end-cursor.ensures),
       );
@@ -164,7 +171,8 @@ object-loop-cursor-preserved t c =
             members_more (source line all) c.args.decimals c.args.at c.loop-cursor.cursor end
                 c.blanks_end-cursor-in-44.result
                 c.args.depth c.push.new.nodes.items now new s.1
-                (member_read (source line all) c.args.decimals c.loop-cursor.cursor inside from end c.args.depth now
+                (member_read (source line all) c.args.decimals c.loop-cursor.cursor inside from end
+                c.args.depth now
                 mid new n.1 (blanks line inside from c.blanks_end.ensures) r.1) comma
                 (subst (λ k. Blanks line (k + 1) c.blanks_end-cursor-in-44.result) c.if-stop-end.true
                 (blanks line (c.blanks_end-stop.result + 1) c.blanks_end-cursor-in-44.result
@@ -188,7 +196,13 @@ object-close_object-requires-in-125 t c =
     let later : c.blanks_end.result < c.value-end.result = (v c.value-end.new.out.texts.items
     (none_behind c.value-end.new.out.texts.items)).1.later in
     let k = c.key-inside.ensures (omega (arith, later, c.blanks_end.ensures)) in
-    omega (arith, c.loop-cursor.invariant.place, key_grown line _ _ c.loop-cursor.out c.key-inside.new.out k, value_grown line _ _ _ _ c.key-inside.new.out c.value-end.new.out v)
+    omega (
+      arith,
+      c.loop-cursor.invariant.place,
+      key_grown line _ _ c.loop-cursor.out c.key-inside.new.out
+          k,
+      value_grown line _ _ _ _ c.key-inside.new.out c.value-end.new.out v,
+    )
 
 pub object-returns-in-125 : goal.object-returns-in-125
 object-returns-in-125 t c h all g =

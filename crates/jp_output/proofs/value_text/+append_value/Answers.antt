@@ -14,11 +14,9 @@ append_list-loop-member-preserved t c =
     let first : here ≡ m ∷ left = grind (arith, common_steps) in
     let named = extends_on _ _ _ (extends_on _ _ _ l.invariant.kept c.append_comma.ensures.kept)
     c.append_name.ensures.kept in record {
-      rest = next_listed l.later m here left _ _ _ _ _ _ first c.in_ok-append_comma.ensures.ok
-          c.in_ok-append_name.ensures.ok c.in_ok-push-2.ensures.items c.in_ok-append_value.ensures.ok
-          l.invariant.rest;
-      kept = extends_on _ _ _ (extends_on _ _ _ named (58 ∷ [], c.in_ok-push-2.ensures.items))
-          c.append_value.ensures.kept;
+      rest = next_listed l.later m here left _ _ _ _ _ first c.in_ok-append_comma.ensures.ok
+          c.in_ok-append_name.ensures.ok c.in_ok-append_value.ensures.ok l.invariant.rest;
+      kept = extends_on _ _ _ named c.append_value.ensures.kept;
       height = left_height m here left _ first l.invariant.height;
     }
 
@@ -43,4 +41,4 @@ append_list-returns-clause-ok t c =
     let l = c.loop-member in
     let none : drop l.member-index c.args.list.now ≡ [] = grind (arith, common_steps) in
     object_written c.args.list.now _ l.later _ _ _ _ none c.in_ok-push.ensures.items l.invariant.rest
-    c.in_ok-push-3.ensures.items
+    c.in_ok-push-2.ensures.items

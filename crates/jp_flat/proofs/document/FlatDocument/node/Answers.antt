@@ -18,4 +18,5 @@ returns-clause-piece c =
     let d = c.args.self.now in
     let at = c.args.at in
     ∥∥₁_elim d.held (HasPiece-IsProp (document_source d) (get_or d.nodes.now at (Object 0))) (λ held.
-    subst (HasPiece (document_source d)) (get_or_default d.nodes.now at Null (Object 0) c.requires) (held.pieces at))
+    subst (HasPiece (document_source d)) (get_or_default d.nodes.now at Null (Object 0) c.requires)
+    (held.pieces at))

@@ -42,5 +42,11 @@ returns-in_default c =
     record {
       value = (split_items (document_source d) _ _ _ c.node.result c.args.self.flat c.node.ensures.token
           (λ e. grind arith) c.after-end.ensures.value).value;
-      fewer = omega (arith, c.after-end.ensures.later, inside, length-map d.nodes.now (token_at (document_source d)));
+      fewer = omega (
+        arith,
+        c.after-end.ensures.later,
+        inside,
+        length-map d.nodes.now (token_at
+            (document_source d)),
+      );
     }

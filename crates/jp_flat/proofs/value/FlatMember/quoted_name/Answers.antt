@@ -4,7 +4,8 @@ use Rattle.std.proofs.Props.{props}
 use Rattle.std.proofs.lemmas.Str.{encodes-chars, IsUtf8-from_is_utf8}
 use Rattle.std.specs.Prelude.{encode_utf8_all}
 use Rattle.std.specs.Str.{chars}
-use Rattle.json.specs.Print.{quoted}
+use Rattle.json.specs.Token.{key}
+use Rattle.json.specs.Print.{token_text}
 use Rattle.jp_flat.specs.Document.{document_source}
 use Rattle.jp_flat.specs.inner.Held.{HasPiece}
 use Rattle.jp_flat_nodes.specs.Nodes.{piece}
@@ -23,6 +24,8 @@ returns-in-Key c =
     let text = piece d.line.now c.in-Key.from c.in-Key.count in
     let held = subst (HasPiece (document_source d)) c.in-Key.is c.node.ensures.piece in
     ∥∥₁_elim m.named (hlevel props) (λ named.
-    c.quoted.ensures ∙ ap quoted (sym (encodes-chars text (IsUtf8-from_is_utf8 text held.0.1)))
-    ∙ ap (λ s. quoted (encode_utf8_all (chars s))) (name_is d m.value.at m.name.now c.node.result c.in-Key.from
+    c.quoted_name.ensures ∙ ap (λ s. token_text (key s)) (sym (encodes-chars text (IsUtf8-from_is_utf8 text
+    held.0.1)))
+    ∙ ap (λ s. token_text (key (encode_utf8_all (chars s)))) (name_is d m.value.at m.name.now c.node.result
+    c.in-Key.from
     c.in-Key.count named c.node.ensures.token c.in-Key.is))
