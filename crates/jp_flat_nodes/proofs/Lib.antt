@@ -1,5 +1,6 @@
 mod Vectors
 mod Cuts
+mod Spelling
 mod Printing
 mod Growing
 mod Digits

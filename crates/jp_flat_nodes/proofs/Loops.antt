@@ -91,7 +91,8 @@ pub items_begin : (src : Source) (decimals : Bool) (start cursor depth : ℕ) (o
 items_begin src decimals start cursor depth opened inside byte blanks = record {
   made = [];
   so_far = nothing_yet src start cursor begin_array opened
-      (here src.line false start (start + 1) begin_array refl (byte_then src.line start 91 inside byte))
+      (here src.line false start (start + 1) begin_array _ refl refl (byte_then src.line start 91 inside
+      byte))
       refl blanks;
   whole = λ js. js;
   tokens = λ js. refl;
@@ -127,8 +128,8 @@ pub no_items_close : (src : Source) (decimals : Bool) (start cursor depth : ℕ)
 no_items_close src decimals start cursor depth old opened final place inside byte blanks within closing at
     begun made =
     let text = both src.line false start (start + 1) (cursor + 1) (begin_array ∷ []) (end_array ∷ [])
-    (here src.line false start (start + 1) begin_array refl (byte_then src.line start 91 inside byte))
-    (one src.line false (start + 1) cursor (cursor + 1) end_array refl blanks
+    (here src.line false start (start + 1) begin_array _ refl refl (byte_then src.line start 91 inside byte))
+    (one src.line false (start + 1) cursor (cursor + 1) end_array _ refl refl blanks
     (byte_then src.line cursor 93 within closing)) in
     record {
       value = array no_items;
@@ -171,7 +172,7 @@ items_close src decimals start cursor end stop depth old opened now new final pl
     append_assoc s.made (json_tokens v.value) (end_array ∷ []) ∙ s.tokens (item v.value no_items) in
     let text = all_text src start cursor end (stop + 1) begin_array end_array opened now s.made [] v.value
     s.so_far (value_begins v.value) v.text
-    (one src.line true end stop (stop + 1) end_array refl blanks (byte_then src.line stop 93 within
+    (one src.line true end stop (stop + 1) end_array _ refl refl blanks (byte_then src.line stop 93 within
     closing)) in
     record {
       value = array js;
@@ -216,7 +217,7 @@ pub members_begin : (src : Source) (decimals : Bool) (start cursor depth : ℕ) 
 members_begin src decimals start cursor depth opened inside byte blanks = record {
   made = [];
   so_far = nothing_yet src start cursor begin_object opened
-      (here src.line false start (start + 1) begin_object refl
+      (here src.line false start (start + 1) begin_object _ refl refl
       (byte_then src.line start 123 inside byte)) refl blanks;
   whole = λ ms. ms;
   tokens = λ ms. refl;
@@ -284,8 +285,9 @@ pub no_members_close : (src : Source) (decimals : Bool) (start cursor depth : �
 no_members_close src decimals start cursor depth old opened final place inside byte blanks within closing
     at begun made =
     let text = both src.line false start (start + 1) (cursor + 1) (begin_object ∷ []) (end_object ∷ [])
-    (here src.line false start (start + 1) begin_object refl (byte_then src.line start 123 inside byte))
-    (one src.line false (start + 1) cursor (cursor + 1) end_object refl blanks
+    (here src.line false start (start + 1) begin_object _ refl refl (byte_then src.line start 123 inside
+    byte))
+    (one src.line false (start + 1) cursor (cursor + 1) end_object _ refl refl blanks
     (byte_then src.line cursor 125 within closing)) in
     record {
       value = object no_members;
@@ -328,7 +330,7 @@ members_close src decimals start cursor end stop depth old opened now new final 
     append_assoc s.made more (end_object ∷ []) ∙ s.tokens (member m.name m.value no_members) in
     let text = all_text src start cursor end (stop + 1) begin_object end_object opened now s.made
     (key m.name ∷ []) m.value s.so_far refl m.text
-    (one src.line true end stop (stop + 1) end_object refl blanks (byte_then src.line stop 125 within
+    (one src.line true end stop (stop + 1) end_object _ refl refl blanks (byte_then src.line stop 125 within
     closing)) in
     record {
       value = object ms;

@@ -6,7 +6,7 @@ use Rattle.std.proofs.Common.{length-drop}
 use Rattle.std.proofs.Math.Seq.{take-append_seam, drop-append_seam}
 use Rattle.std.proofs.lemmas.List.{length-take}
 use Rattle.json.specs.Json.{Json, string, number}
-use Rattle.json.specs.Print.{escape, quoted, token_text, separator, IsNumber}
+use Rattle.json.specs.Print.{escape, quoted, separator, IsNumber}
 use Rattle.json.specs.Token as token
 use Rattle.json.specs.Token.{Token, key}
 use Rattle.json.specs.Tree as tree
@@ -14,6 +14,7 @@ use Rattle.json.specs.Tree.{json_tokens, HasNumbers}
 use Rattle.jp_flat_nodes.specs.Digits.{is_taken}
 use Rattle.jp_flat_nodes.specs.Nodes.{Source, source, piece, token_at, link_of, IsPlain, IsWithin, are_taken}
 use Rattle.jp_flat_nodes.specs.inner.Reads.{Reads, ReadsKey, IsPlainText, Grows, Prints, GoesOn, IsWritten}
+use Rattle.jp_flat_nodes.specs.inner.Reads.{IsSpelling, Stands}
 use Rattle.jp_flat_nodes.specs.declared.node.FlatNode.{FlatNode}
 use Rattle.jp_flat_nodes.specs.declared.node.FlatNode.TheVariants.{Number}
 use Rattle.jp_flat_nodes.proofs.Cuts.{byte_then, cut, quoted_text}
@@ -22,19 +23,21 @@ use Rattle.jp_flat_nodes.proofs.Printing.{here}
 
 -- one node more, whose token is a value
 pub leaf : (src : Source) (decimals : Bool) (at end depth : ℕ) (old new : List FlatNode) (n : FlatNode)
-    (j : Json) (t : Token)
+    (j : Json) (t : Token) (w : List ℕ)
     → at < end → json_tokens j ≡ (t ∷ []) → token_at src n ≡ t → HasNumbers j → are_taken decimals j ≡ true
-    → tree.depth j ≡ 0 → separator false t ≡ [] → drop at src.line ≡ token_text t ++ drop end src.line
+    → tree.depth j ≡ 0 → separator false t ≡ [] → IsSpelling t w → drop at src.line ≡ w ++ drop end src.line
     → link_of n ≡ None → IsWithin src n → new ≡ old ++ (n ∷ [])
     → Reads src decimals at end depth old new
-leaf src decimals at end depth old new n j t later is same numbers whole flat none text no_link within
+leaf src decimals at end depth old new n j t w later is same numbers whole flat none spelling text no_link
+    within
     made = record {
       value = j;
       later = later;
       numbers = numbers;
       taken = whole;
       nests = omega (arith, flat);
-      text = subst (λ ts. Prints src.line false at end ts) (sym is) (here src.line false at end t none text);
+      text = subst (λ ts. Prints src.line false at end ts) (sym is) (here src.line false at end t w none
+          spelling text);
       grows = subst (Grows src old new) (ap (λ u. u ∷ []) same ∙ sym is)
           (one_more src old new n no_link within made);
     }
@@ -45,8 +48,9 @@ pub number_leaf : (src : Source) (decimals : Bool) (at end count depth : ℕ) (o
     → count ≡ end - at → new ≡ old ++ (Number at count ∷ []) → Reads src decimals at end depth old new
 number_leaf src decimals at end count depth old new later inside is c made =
     let s = piece src.line at (end - at) in
-    leaf src decimals at end depth old new (Number at count) (number s) (token.number s) later refl
-    (ap (λ k. token.number (piece src.line at k)) c) is.0 is.1 refl refl (cut src.line at end (omega arith))
+    leaf src decimals at end depth old new (Number at count) (number s) (token.number s) s later refl
+    (ap (λ k. token.number (piece src.line at k)) c) is.0 is.1 refl refl refl (cut src.line at end (omega
+    arith))
     refl (omega arith) made
 
 -- ---- texts
@@ -54,7 +58,9 @@ number_leaf src decimals at end count depth old new later inside is c made =
 -- a text that is a part of a line between its quotes, and the node that tells it
 pub record IsTold (src : Source) (at end : ℕ) (text : List ℕ) : Type 0 where
   pub later : at < end
-  pub is : drop at src.line ≡ quoted text ++ drop end src.line
+  pub part : List ℕ
+  pub is : drop at src.line ≡ (34 ∷ (part ++ 34 ∷ [])) ++ drop end src.line
+  pub stands : Stands part text
 
 -- a plain one
 pub told_plain : (src : Source) (at stop : ℕ) → at < length src.line → get_or src.line at 0 ≡ 34
@@ -62,7 +68,10 @@ pub told_plain : (src : Source) (at stop : ℕ) → at < length src.line → get
     → IsTold src at (stop + 1) (piece src.line (at + 1) (stop - (at + 1)))
 told_plain src at stop inside quote p = record {
   later = omega (arith, p.ordered);
-  is = quoted_text src.line at stop inside quote p;
+  part = piece src.line (at + 1) (stop - (at + 1));
+  is = quoted_text src.line at stop inside quote p
+      ∙ ap (λ l. (34 ∷ (l ++ 34 ∷ [])) ++ drop (stop + 1) src.line) p.plain;
+  stands = p.stands;
 }
 
 pub plain_within : (line : List ℕ) (at stop count : ℕ) → at < length line → get_or line at 0 ≡ 34
@@ -96,9 +105,11 @@ pub told_written : (line all : List ℕ) (at stop : ℕ) (old new : List ℕ)
     → stop < length line → get_or line stop 0 ≡ 34 → IsTold (source line all) at (stop + 1) w.more
 told_written line all at stop old new w inside quote within last = record {
   later = omega (arith, w.ordered);
+  part = w.part;
   is = byte_then line at 34 inside quote
-      ∙ ap (λ l. 34 ∷ l) (w.text ∙ ap (λ l. escape w.more ++ l) (byte_then line stop 34 within last)
-      ∙ sym (append_assoc (escape w.more) (34 ∷ []) (drop (stop + 1) line)));
+      ∙ ap (λ l. 34 ∷ l) (w.text ∙ ap (λ l. w.part ++ l) (byte_then line stop 34 within last)
+      ∙ sym (append_assoc w.part (34 ∷ []) (drop (stop + 1) line)));
+  stands = w.stands;
 }
 
 -- it stands where it was put, whatever is put behind it
@@ -127,8 +138,9 @@ pub text_leaf : (src : Source) (decimals : Bool) (at end depth : ℕ) (old new :
     (n : FlatNode) (s : List ℕ) → IsTold src at end s → token_at src n ≡ token.string s → link_of n ≡ None
     → IsWithin src n → new ≡ old ++ (n ∷ []) → Reads src decimals at end depth old new
 text_leaf src decimals at end depth old new n s told same none within made =
-    leaf src decimals at end depth old new n (string s) (token.string s) told.later refl same tt refl refl
-    refl told.is none within made
+    leaf src decimals at end depth old new n (string s) (token.string s) (34 ∷ (told.part ++ 34 ∷ []))
+    told.later
+    refl same tt refl refl refl (told.part, refl, told.stands) told.is none within made
 
 pub key_read : (src : Source) (at end : ℕ) (old new : List FlatNode) (n : FlatNode) (s : List ℕ)
     → IsTold src at end s → end < length src.line → get_or src.line end 0 ≡ 58 → token_at src n ≡ key s
@@ -136,8 +148,9 @@ pub key_read : (src : Source) (at end : ℕ) (old new : List FlatNode) (n : Flat
 key_read src at end old new n s told more colon same none within made = record {
   name = s;
   later = omega (arith, told.later);
-  text = here src.line false at (end + 1) (key s) refl
-      (told.is ∙ ap (λ l. quoted s ++ l) (byte_then src.line end 58 more colon)
-      ∙ sym (append_assoc (quoted s) (58 ∷ []) (drop (end + 1) src.line)));
+  text = let q = 34 ∷ (told.part ++ 34 ∷ []) in
+      here src.line false at (end + 1) (key s) (q ++ 58 ∷ []) refl (told.part, refl, told.stands)
+      (told.is ∙ ap (λ l. q ++ l) (byte_then src.line end 58 more colon)
+      ∙ sym (append_assoc q (58 ∷ []) (drop (end + 1) src.line)));
   grows = subst (λ t. Grows src old new (t ∷ [])) same (one_more src old new n none within made);
 }

@@ -1,40 +1,16 @@
 -- Escapes, and what stands for a text that has some.
-use Rattle.std.proofs.Common.{◌≡◌, ℕ, ◌+◌, ◌*◌, ◌-◌, ◌/◌, ◌%◌, ◌<◌, ◌≤◌, List, [], ◌∷◌, ◌++◌, length}
-use Rattle.std.proofs.Common.{drop, get_or, refl, sym, ap, ap₂, ◌∙◌, arith, append_assoc, append-nil}
-use Rattle.std.proofs.Common.{ne_eqb, lt-ltb}
-use Rattle.std.proofs.lemmas.Grind.{flat_map-append}
-use Rattle.std.specs.Char.{digit_char}
+use Rattle.std.proofs.Common.{◌≡◌, ℕ, ◌+◌, ◌*◌, ◌-◌, ◌<◌, ◌≤◌, true, false, List, [], ◌∷◌, ◌++◌}
+use Rattle.std.proofs.Common.{length, drop, get_or, Some, refl, sym, ap, ◌∙◌, subst, arith}
+use Rattle.std.proofs.Common.{append_assoc, append-nil, ne_eqb, lt-ltb, add-zero, zero, suc}
+use Rattle.std.specs.Char.{digit_value, encode_utf8}
 use Rattle.std.specs.List.{prefix_len}
-use Rattle.json.specs.Print.{escape, escape_byte}
+use Rattle.json.specs.Lex.{lex, in_string}
 use Rattle.json.specs.Run.{is_plain}
+use Rattle.json.specs.Text.{content, code_unit, short_escape, is_high_surrogate}
+use Rattle.json.specs.Text.{is_low_surrogate, surrogate_pair}
 use Rattle.jp_flat_nodes.specs.Nodes.{piece}
-use Rattle.jp_flat_nodes.specs.inner.Reads.{IsEscape, IsWritten}
-use Rattle.jp_flat_nodes.proofs.Cuts.{byte_then, cut, plain_stands}
-
--- a control byte that has no letter
-by_digits : (b : ℕ) → b < 32 → (b ≡ 8 → ⊥) → (b ≡ 9 → ⊥) → (b ≡ 10 → ⊥) → (b ≡ 12 → ⊥) → (b ≡ 13 → ⊥)
-    → escape_byte b ≡ 92 ∷ 117 ∷ 48 ∷ 48 ∷ digit_char (b / 16) ∷ digit_char (b % 16) ∷ []
-unfolding escape_byte
-by_digits b small h8 h9 h10 h12 h13 =
-    rw (
-      ne_eqb b 34 (λ e. omega arith),
-      ne_eqb b 92 (λ e. omega arith),
-      ne_eqb b 8 h8,
-      ne_eqb b 12 h12,
-      ne_eqb b 10 h10,
-      ne_eqb b 13 h13,
-      ne_eqb b 9 h9,
-      lt-ltb b 32 small,
-    ) refl
-
-pub control_escape : (b s o high low : ℕ) → b ≡ 16 * s + o → s < 2 → o < 16 → digit_char s ≡ high
-    → digit_char o ≡ low → (b ≡ 8 → ⊥) → (b ≡ 9 → ⊥) → (b ≡ 10 → ⊥) → (b ≡ 12 → ⊥) → (b ≡ 13 → ⊥)
-    → escape_byte b ≡ 92 ∷ 117 ∷ 48 ∷ 48 ∷ high ∷ low ∷ []
-control_escape b s o high low is few small h l h8 h9 h10 h12 h13 =
-    let front : b / 16 ≡ s = omega arith in
-    let back : b % 16 ≡ o = omega arith in
-    by_digits b (omega arith) h8 h9 h10 h12 h13
-    ∙ ap₂ (λ x y. 92 ∷ 117 ∷ 48 ∷ 48 ∷ x ∷ y ∷ []) (ap digit_char front ∙ h) (ap digit_char back ∙ l)
+use Rattle.jp_flat_nodes.specs.inner.Reads.{IsEscape, IsUnit, IsWritten, Stands}
+use Rattle.jp_flat_nodes.proofs.Cuts.{byte_then, cut, run_stands, plain_passed, stands_both, nothing_stands}
 
 -- ---- a text, part by part
 
@@ -45,20 +21,22 @@ nothing_written line from texts h = record {
   behind = sym (append-nil texts);
   ordered = omega arith;
   inside = h;
+  part = [];
   text = refl;
+  stands = nothing_stands;
 }
 
-more_written : (line : List ℕ) (from at end : ℕ) (old now new part : List ℕ) → IsWritten line from at old now
-    → new ≡ now ++ part → at ≤ end → end ≤ length line → drop at line ≡ escape part ++ drop end line
-    → IsWritten line from end old new
-more_written line from at end old now new part w made later inside text = record {
-  more = w.more ++ part;
-  behind = made ∙ ap (λ l. l ++ part) w.behind ∙ append_assoc old w.more part;
+more_written : (line : List ℕ) (from at end : ℕ) (old now new part text : List ℕ)
+    → IsWritten line from at old now → new ≡ now ++ text → at ≤ end → end ≤ length line
+    → drop at line ≡ part ++ drop end line → Stands part text → IsWritten line from end old new
+more_written line from at end old now new part text w made later inside is stands = record {
+  more = w.more ++ text;
+  behind = made ∙ ap (λ l. l ++ text) w.behind ∙ append_assoc old w.more text;
   ordered = omega (arith, w.ordered);
   inside = inside;
-  text = w.text ∙ ap (λ l. escape w.more ++ l) text
-      ∙ sym (append_assoc (escape w.more) (escape part) (drop end line))
-      ∙ ap (λ l. l ++ drop end line) (sym (flat_map-append escape_byte w.more part));
+  part = w.part ++ part;
+  text = w.text ∙ ap (λ l. w.part ++ l) is ∙ sym (append_assoc w.part part (drop end line));
+  stands = stands_both w.part part w.more text w.stands stands;
 }
 
 -- bytes that stand for themselves
@@ -67,48 +45,140 @@ pub run_written : (line : List ℕ) (from at stop : ℕ) (old now new : List ℕ
     → new ≡ now ++ piece line at (stop - at) → IsWritten line from stop old new
 run_written line from at stop old now new w is inside made =
     let run = piece line at (stop - at) in
-    let plain : escape run ≡ run = plain_stands (drop at line) (stop - at) (omega arith) in
-    more_written line from at stop old now new run w made (omega arith) inside
-    (cut line at stop (omega arith) ∙ ap (λ l. l ++ drop stop line) (sym plain))
+    more_written line from at stop old now new run run w made (omega arith) inside
+    (cut line at stop (omega arith)) (run_stands (drop at line) (stop - at) (omega arith))
 
 -- and an escape
-pub escape_written : (line : List ℕ) (from at byte end : ℕ) (old now new : List ℕ)
-    → IsWritten line from at old now → IsEscape line at byte end → new ≡ now ++ (byte ∷ [])
+pub escape_written : (line : List ℕ) (from at letter end : ℕ) (old now new : List ℕ)
+    → IsWritten line from at old now → IsEscape line at letter end → new ≡ now ++ encode_utf8 letter
     → IsWritten line from end old new
-escape_written line from at byte end old now new w e made =
-    more_written line from at end old now new (byte ∷ []) w made (omega (arith, e.later)) e.inside
-    (e.text ∙ ap (λ l. l ++ drop end line) (sym (append-nil (escape_byte byte))))
+escape_written line from at letter end old now new w e made =
+    more_written line from at end old now new e.part (encode_utf8 letter) w made (omega (arith, e.later))
+    e.inside e.text e.stands
 
 -- ---- one escape
 
-pub short_read : (line : List ℕ) (at byte letter : ℕ) → at < length line → get_or line at 0 ≡ 92
-    → at + 1 < length line → get_or line (at + 1) 0 ≡ letter → escape_byte byte ≡ 92 ∷ letter ∷ []
-    → IsEscape line at byte (at + 2)
-short_read line at byte letter inside first more is same =
+pub ascii_alone : (x : ℕ) → x < 128 → encode_utf8 x ≡ x ∷ []
+unfolding encode_utf8
+ascii_alone x h = rw (lt-ltb x 128 h) refl
+
+short_stands : (letter byte : ℕ) → (letter ≡ 117 → ⊥) → short_escape letter ≡ Some byte
+    → Stands (92 ∷ letter ∷ []) (byte ∷ [])
+unfolding content lex
+short_stands letter byte other is = record {
+  means = λ r. rw (ne_eqb letter 117 other, is) refl;
+  passed = λ r. refl;
+}
+
+pub short_read : (line : List ℕ) (at letter byte : ℕ) → at < length line → get_or line at 0 ≡ 92
+    → at + 1 < length line → get_or line (at + 1) 0 ≡ letter → (letter ≡ 117 → ⊥)
+    → short_escape letter ≡ Some byte → encode_utf8 byte ≡ byte ∷ [] → IsEscape line at byte (at + 2)
+short_read line at letter byte inside first more is other means ascii =
     let end : at + 1 + 1 ≡ at + 2 = omega arith in
     record {
       later = omega arith;
       inside = omega arith;
+      part = 92 ∷ letter ∷ [];
       text = byte_then line at 92 inside first
-          ∙ ap (λ l. 92 ∷ l) (byte_then line (at + 1) letter more is
-          ∙ ap (λ k. letter ∷ drop k line) end)
-          ∙ ap (λ l. l ++ drop (at + 2) line) (sym same);
+          ∙ ap (λ l. 92 ∷ l) (byte_then line (at + 1) letter more is ∙ ap (λ k. letter ∷ drop k line) end);
+      stands = subst (Stands (92 ∷ letter ∷ [])) (sym ascii) (short_stands letter byte other means);
     }
 
-pub control_read : (line : List ℕ) (at byte high low : ℕ) → at < length line → get_or line at 0 ≡ 92
-    → drop (at + 1) line ≡ 117 ∷ 48 ∷ 48 ∷ drop (at + 4) line → at + 5 < length line
-    → get_or line (at + 4) 0 ≡ high → get_or line (at + 5) 0 ≡ low
-    → escape_byte byte ≡ 92 ∷ 117 ∷ 48 ∷ 48 ∷ high ∷ low ∷ [] → IsEscape line at byte (at + 6)
-control_read line at byte high low inside first zeros more h l same =
-    let next : at + 4 + 1 ≡ at + 5 = omega arith in
-    let end : at + 5 + 1 ≡ at + 6 = omega arith in
+-- four digits, by the value of each
+pub unit_is : (line : List ℕ) (at a b c d : ℕ) → a < 16 → b < 16 → c < 16 → d < 16
+    → digit_value (get_or line at 0) ≡ a → digit_value (get_or line (at + 1) 0) ≡ b
+    → digit_value (get_or line (at + 2) 0) ≡ c → digit_value (get_or line (at + 3) 0) ≡ d
+    → is_plain (get_or line at 0) ≡ true → is_plain (get_or line (at + 1) 0) ≡ true
+    → is_plain (get_or line (at + 2) 0) ≡ true → is_plain (get_or line (at + 3) 0) ≡ true
+    → IsUnit line at (a * 4096 + b * 256 + c * 16 + d)
+unfolding code_unit
+unit_is line at a b c d ha hb hc hd va vb vc vd pa pb pc pd = record {
+  is = rw (va, vb, vc, vd, lt-ltb a 16 ha, lt-ltb b 16 hb, lt-ltb c 16 hc, lt-ltb d 16 hd) refl;
+  small = omega arith;
+  are_plain = each;
+}
+  where
+    each : (i : ℕ) → i < 4 → is_plain (get_or line (at + i) 0) ≡ true
+    each zero h = ap (λ k. is_plain (get_or line k 0)) (add-zero at) ∙ pa
+    each (suc zero) h = pb
+    each (suc (suc zero)) h = pc
+    each (suc (suc (suc zero))) h = pd
+    each (suc (suc (suc (suc i)))) h = absurd (omega arith)
+
+-- the six bytes of `\u` and four digits
+unit_bytes : (line : List ℕ) (at : ℕ) → List ℕ
+unit_bytes line at =
+    92 ∷ 117 ∷ get_or line (at + 2) 0 ∷ get_or line (at + 2 + 1) 0 ∷ get_or line (at + 2 + 2) 0
+    ∷ get_or line (at + 2 + 3) 0 ∷ []
+
+six : (line : List ℕ) (at : ℕ) → at + 6 ≤ length line → get_or line at 0 ≡ 92 → get_or line (at + 1) 0 ≡ 117
+    → drop at line ≡ unit_bytes line at ++ drop (at + 6) line
+unfolding unit_bytes
+six line at h first second =
+    let next : (j k : ℕ) → k ≡ j + 1 → j < length line → drop j line ≡ get_or line j 0 ∷ drop k line = λ j k
+    e l.
+    byte_then line j (get_or line j 0) l refl ∙ ap (λ n. get_or line j 0 ∷ drop n line) (sym e) in
+    byte_then line at 92 (omega arith) first
+    ∙ ap (λ l. 92 ∷ l) (byte_then line (at + 1) 117 (omega arith) second)
+    ∙ ap (λ k. 92 ∷ 117 ∷ drop k line) (omega arith)
+    ∙ ap (λ l. 92 ∷ 117 ∷ l) (next (at + 2) (at + 2 + 1) refl (omega arith)
+    ∙ ap (λ l. get_or line (at + 2) 0 ∷ l) (next (at + 2 + 1) (at + 2 + 2) (omega arith) (omega arith)
+    ∙ ap (λ l. get_or line (at + 2 + 1) 0 ∷ l) (next (at + 2 + 2) (at + 2 + 3) (omega arith) (omega arith)
+    ∙ ap (λ l. get_or line (at + 2 + 2) 0 ∷ l) (next (at + 2 + 3) (at + 6) (omega arith) (omega arith)))))
+
+digits_passed : (line : List ℕ) (at unit : ℕ) (r : List ℕ) → IsUnit line (at + 2) unit
+    → lex in_string (unit_bytes line at ++ r) ≡ lex in_string r
+unfolding unit_bytes lex
+digits_passed line at unit r u =
+    let none : at + 2 + 0 ≡ at + 2 = omega arith in
+    let a = get_or line (at + 2) 0 in
+    let b = get_or line (at + 2 + 1) 0 in
+    let c = get_or line (at + 2 + 2) 0 in
+    let d = get_or line (at + 2 + 3) 0 in
+    plain_passed a (b ∷ c ∷ d ∷ r) (subst (λ i. is_plain (get_or line i 0) ≡ true) none (u.are_plain 0
+    (omega arith)))
+    ∙ plain_passed b (c ∷ d ∷ r) (u.are_plain 1 (omega arith)) ∙ plain_passed c (d ∷ r) (u.are_plain 2
+    (omega arith))
+    ∙ plain_passed d r (u.are_plain 3 (omega arith))
+
+pub unit_read : (line : List ℕ) (at unit : ℕ) → at + 6 ≤ length line → get_or line at 0 ≡ 92
+    → get_or line (at + 1) 0 ≡ 117 → IsUnit line (at + 2) unit → is_high_surrogate unit ≡ false
+    → is_low_surrogate unit ≡ false → IsEscape line at unit (at + 6)
+unfolding content unit_bytes
+unit_read line at unit inside first second u high low = record {
+  later = omega arith;
+  inside = inside;
+  part = unit_bytes line at;
+  text = six line at inside first second;
+  stands = record {
+    means = λ r. rw (u.is, high, low) refl;
+    passed = λ r. digits_passed line at unit r u;
+  };
+}
+
+pub pair_read : (line : List ℕ) (at high low : ℕ) → at + 12 ≤ length line → get_or line at 0 ≡ 92
+    → get_or line (at + 1) 0 ≡ 117 → get_or line (at + 6) 0 ≡ 92 → get_or line (at + 7) 0 ≡ 117
+    → IsUnit line (at + 2) high → IsUnit line (at + 8) low → is_high_surrogate high ≡ true
+    → is_low_surrogate low ≡ true → IsEscape line at (surrogate_pair high low) (at + 12)
+unfolding content unit_bytes
+pair_read line at high low inside first second third fourth u v h l =
+    let seven : at + 7 ≡ at + 6 + 1 = omega arith in
+    let eight : at + 8 ≡ at + 6 + 2 = omega arith in
+    let twelve : at + 6 + 6 ≡ at + 12 = omega arith in
+    let w = subst (λ i. IsUnit line i low) eight v in
     record {
       later = omega arith;
-      inside = omega arith;
-      text = byte_then line at 92 inside first
-          ∙ ap (λ l. 92 ∷ l) (zeros ∙ ap (λ l. 117 ∷ 48 ∷ 48 ∷ l) (byte_then line (at + 4) high (omega
-          arith) h
-          ∙ ap (λ k. high ∷ drop k line) next
-          ∙ ap (λ l. high ∷ l) (byte_then line (at + 5) low more l ∙ ap (λ k. low ∷ drop k line) end)))
-          ∙ ap (λ l. l ++ drop (at + 6) line) (sym same);
+      inside = inside;
+      part = unit_bytes line at ++ unit_bytes line (at + 6);
+      text = six line at (omega arith) first second
+          ∙ ap (λ l. unit_bytes line at ++ l) (six line (at + 6) (omega arith) third
+          (ap (λ i. get_or line i 0) (sym seven) ∙ fourth)
+          ∙ ap (λ k. unit_bytes line (at + 6) ++ drop k line) twelve)
+          ∙ sym (append_assoc (unit_bytes line at) (unit_bytes line (at + 6)) (drop (at + 12) line));
+      stands = record {
+        means = λ r. rw (u.is, h, w.is, l) refl;
+        passed = λ r. ap (lex in_string) (append_assoc (unit_bytes line at) (unit_bytes line (at + 6)) r)
+            ∙ digits_passed line at high (unit_bytes line (at + 6) ++ r) u
+            ∙ digits_passed line (at + 6) low r w;
+      };
     }

@@ -1,18 +1,20 @@
-//! Texts with escapes, where each is the one that is printed for its byte.
+//! Texts with escapes (RFC 8259, 7).
 
-ghost use Rattle.std.specs.Prelude.{◌≡◌, ◌≤◌, ◌<◌, ◌+◌, ◌^◌, ◌∷◌, [], length, get_or, IfSome};
-ghost use Rattle.std.specs.Char.{digit_char};
-ghost use Rattle.json.specs.Print.{escape_byte};
-ghost use Rattle.jp_flat_nodes.specs.inner.Reads.{IsEscape, IsUnescaped, IsWritten};
+ghost use Rattle.std.specs.Prelude.{◌≡◌, ◌≤◌, ◌<◌, ◌+◌, ◌^◌, ◌++◌, true, Some, length, get_or};
+ghost use Rattle.std.specs.Prelude.{IfSome, IsTrue};
+ghost use Rattle.std.specs.Char.{digit_value, encode_utf8};
+ghost use Rattle.json.specs.Run.{is_plain};
+ghost use Rattle.json.specs.Text.{short_escape};
+ghost use Rattle.jp_flat_nodes.specs.inner.Reads.{IsEscape, IsUnescaped, IsUnit, IsWritten};
 
-use crate::bytes::{byte_at, goes_on, plain_end};
+use crate::bytes::{byte_at, plain_end};
 use crate::limits::MAX_TEXT;
 use crate::node::REFUSED;
 
-/// The byte that an escape stands for, and the place behind it.
+/// The character that an escape stands for, and the place behind it.
 #[derive(Clone, Copy, Drop)]
 struct Escape {
-    byte: u8,
+    letter: char,
     end: usize,
 }
 
@@ -25,72 +27,125 @@ pub(crate) struct Unescaped {
     pub(crate) stop: usize,
 }
 
-/// The byte whose escape is a backslash and this letter, or 0 where none is.
-#[tactic(auto, unfolding(json::specs::Print::escape_byte))]
-fn short_byte(letter: u8) -> u8
-    ensures value { 0 < result → escape_byte result ≡ 92 ∷ letter ∷ [] }
-    ensures some { 0 < result → 0 < letter }
+/// The byte that a backslash and this letter stand for.
+#[tactic(auto, unfolding(json::specs::Text::short_escape))]
+fn short_byte(letter: u8) -> Option<u8>
+    ensures value { IfSome result (λ b. short_escape letter ≡ Some b) }
+    ensures small { IfSome result (λ b. (b < 128) × (0 < letter) × (letter < 117)) }
 {
     match letter {
-        b'"' => b'"',
-        b'\\' => b'\\',
-        b'b' => 8,
-        b't' => 9,
-        b'n' => 10,
-        b'f' => 12,
-        b'r' => 13,
-        _ => 0,
+        b'"' => Some(b'"'),
+        b'\\' => Some(b'\\'),
+        b'/' => Some(b'/'),
+        b'b' => Some(8),
+        b'f' => Some(12),
+        b'n' => Some(10),
+        b'r' => Some(13),
+        b't' => Some(9),
+        _ => None,
     }
 }
 
-/// The value of a hexadecimal digit in lower case, and 16 of any other byte.
-fn digit_value(digit: u8) -> u8
-    ensures value { result < 16 → digit_char result ≡ digit }
-    ensures some { result < 16 → 0 < digit }
+/// The value of a hexadecimal digit, and 16 of any other byte.
+fn hex_digit(digit: u8) -> u32
+    ensures value { result < 16 → digit_value digit ≡ result }
+    ensures plain { result < 16 → is_plain digit ≡ true }
 {
     match digit {
-        b'0'..=b'9' => digit - b'0',
-        b'a'..=b'f' => digit - b'a' + 10,
+        b'0'..=b'9' => (digit - b'0') as u32,
+        b'A'..=b'F' => (digit - b'A') as u32 + 10,
+        b'a'..=b'f' => (digit - b'a') as u32 + 10,
         _ => 16,
     }
 }
 
-/// The byte whose escape is `\u00` and these two digits.
-#[tactic(auto, using(crate::proofs::Unescaping::control_escape))]
-fn control_byte(high: u8, low: u8) -> Option<u8>
-    ensures value { IfSome result (λ b. escape_byte b ≡ 92 ∷ 117 ∷ 48 ∷ 48 ∷ high ∷ low ∷ []) }
-    ensures some { IfSome result (λ b. 0 < low) }
+/// The code unit that four hexadecimal digits spell.
+fn hex_unit(line: &[u8], at: usize) -> Option<u32>
+    requires { at + 4 ≤ length line.now }
+    ensures { IfSome result (λ u. IsUnit line.now at u) }
 {
-    let (sixteens, ones) = (digit_value(high), digit_value(low));
-    if sixteens >= 2 || ones >= 16 {
-        return None;
-    }
-    let byte = 16 * sixteens + ones;
-    match byte {
-        // These have shorter escapes.
-        8..=10 | 12 | 13 => None,
-        _ => Some(byte),
+    let (a, b, c, d) = (
+        hex_digit(line[at]),
+        hex_digit(line[at + 1]),
+        hex_digit(line[at + 2]),
+        hex_digit(line[at + 3]),
+    );
+    if (a < 16) & (b < 16) & (c < 16) & (d < 16) {
+        Some(a * 4096 + b * 256 + c * 16 + d)
+    } else {
+        None
     }
 }
 
-/// What the escape that begins here stands for, where it is the one that is printed for its byte.
+/// What the escape stands for that begins here with this high surrogate, where a low one is behind it.
+fn read_pair(line: &[u8], at: usize, high: u32) -> Option<Escape>
+    requires place { (length line.now < 2 ^ 32) × (at + 6 ≤ length line.now) }
+    requires escape { (get_or line.now at 0 ≡ 92) × (get_or line.now (at + 1) 0 ≡ 117) }
+    requires high { (55296 ≤ high) × (high < 56320) × IsUnit line.now (at + 2) high }
+    ensures { IfSome result (λ e. IsEscape line.now at e.letter e.end) }
+{
+    if line.len() - at < 12 || line[at + 6] != b'\\' || line[at + 7] != b'u' {
+        return None;
+    }
+    let low = hex_unit(line, at + 8)?;
+    if low < 0xdc00 || low > 0xdfff {
+        return None;
+    }
+    let letter = char::from_u32(0x10000 + (high - 0xd800) * 1024 + (low - 0xdc00))?;
+    Some(Escape {
+        letter,
+        end: at + 12,
+    })
+}
+
+/// What the escape stands for that begins here with `\u`.
+fn read_unit(line: &[u8], at: usize) -> Option<Escape>
+    requires place { (length line.now < 2 ^ 32) × (at + 1 < length line.now) }
+    requires escape { (get_or line.now at 0 ≡ 92) × (get_or line.now (at + 1) 0 ≡ 117) }
+    ensures { IfSome result (λ e. IsEscape line.now at e.letter e.end) }
+{
+    if line.len() - at < 6 {
+        return None;
+    }
+    let unit = hex_unit(line, at + 2)?;
+    if unit >= 0xd800 && unit < 0xdc00 {
+        return read_pair(line, at, unit);
+    }
+    let letter = char::from_u32(unit)?;
+    Some(Escape {
+        letter,
+        end: at + 6,
+    })
+}
+
+/// What the escape that begins here stands for.
 fn read_escape(line: &[u8], at: usize) -> Option<Escape>
     requires { (length line.now < 2 ^ 32) × (at < length line.now) × (get_or line.now at 0 ≡ 92) }
-    ensures { IfSome result (λ e. IsEscape line.now at e.byte e.end) }
+    ensures { IfSome result (λ e. IsEscape line.now at e.letter e.end) }
 {
-    let byte = short_byte(byte_at(line, at + 1));
-    if byte > 0 {
-        return Some(Escape { byte, end: at + 2 });
+    let letter = byte_at(line, at + 1);
+    if letter == b'u' {
+        return read_unit(line, at);
     }
-    if !goes_on(line, at, b'u', b'0', b'0') {
-        return None;
-    }
-    let byte = control_byte(byte_at(line, at + 4), byte_at(line, at + 5))?;
-    Some(Escape { byte, end: at + 6 })
+    let byte = short_byte(letter)?;
+    Some(Escape {
+        letter: byte as char,
+        end: at + 2,
+    })
 }
 
-/// Puts the text that begins here behind the others, without its escapes, and gives the place of the quote that
-/// ends it, or `REFUSED`.
+/// Puts a character behind the texts. `false` if there is no memory for it.
+fn put_letter(texts: &mut Vec<u8>, letter: char) -> bool
+    ensures { IsTrue result → texts.new.items ≡ texts.old.items ++ encode_utf8 letter }
+{
+    let mut bytes = [0; 4];
+    texts
+        .extend_from_slice(letter.encode_utf8(&mut bytes).as_bytes())
+        .is_ok()
+}
+
+/// Puts the text that begins here behind the others, without its escapes, and gives the place of the quote
+/// that ends it, or `REFUSED`.
 fn unescaped_end(line: &[u8], from: usize, texts: &mut Vec<u8>) -> usize
     requires { (length line.now < 2 ^ 32) × (from ≤ length line.now) }
     ensures written { result < length line.now
@@ -109,7 +164,7 @@ fn unescaped_end(line: &[u8], from: usize, texts: &mut Vec<u8>) -> usize
                 let Some(escape) = read_escape(line, stop) else {
                     return REFUSED;
                 };
-                if texts.push(escape.byte).is_err() {
+                if !put_letter(texts, escape.letter) {
                     return REFUSED;
                 }
                 at = escape.end;

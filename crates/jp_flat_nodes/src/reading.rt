@@ -100,11 +100,10 @@ fn read_with(line: &[u8], out: &mut FlatNodes, decimals: bool) -> bool
 }
 
 /// Whether the line was read, into the nodes that it has: one for each token of the line. `false` says
-/// nothing: of a line that holds no JSON text, that nests deeper than 127, in which some text has an escape
-/// that is not printed for its byte, as `\/`, `\u00e9` or `\u000A`, or some number a fraction, an exponent or
-/// more than 18 digits, or in which some blank stands before a colon or a comma, is a tab or a carriage
-/// return, or stands behind the value; where there is no memory for a node or a text, or there would be more
-/// nodes than `MAX_NODES`.
+/// nothing: of a line that holds no JSON text, that nests deeper than 127, in which some number has a
+/// fraction, an exponent or more than 18 digits, or in which some blank stands before a colon or a comma, is
+/// a tab or a carriage return, or stands behind the value; where there is no memory for a node or a text, or
+/// there would be more nodes than `MAX_NODES`.
 pub fn read_line(line: &[u8], out: &mut FlatNodes) -> bool
     requires { length line.now < 2 ^ 32 }
     ensures { IsTrue result → IsRead false (source line.now out.new.texts.items) out.new.nodes.items }

@@ -1,12 +1,16 @@
 -- What the reading of a part of a line has found: a working file, which nobody has to believe.
 use Rattle.std.specs.Prelude.{◌≡◌, ℕ, ◌+◌, ◌-◌, ◌≤◌, ◌<◌, Bool, true, false, ◌||◌, ◌==◌, List, [], ◌∷◌, ◌++◌}
 use Rattle.std.specs.Prelude.{◌⊎◌, cond, map, fold, length, take, drop, get_or, Some, option_and_then}
-use Rattle.std.specs.Char.{is_ascii_digit}
+use Rattle.std.specs.Char.{is_ascii_digit, encode_utf8}
 use Rattle.std.specs.List.{list_all, prefix_len}
 use Rattle.json.specs.Json.{Json}
-use Rattle.json.specs.Print.{begins, ends, escape, escape_byte}
-use Rattle.json.specs.Spaced.{AreGaps, print_spaced}
-use Rattle.json.specs.Token.{Token, key}
+use Rattle.json.specs.Lex.{lex, in_string}
+use Rattle.json.specs.Print.{begins, ends, escape, separator, token_text}
+use Rattle.json.specs.Spaced.{IsGap}
+use Rattle.json.specs.Run.{is_plain}
+use Rattle.json.specs.Text.{content, code_unit, plain, prepend}
+use Rattle.json.specs.Token.{Token, begin_object, end_object, begin_array, end_array, key, string, number}
+use Rattle.json.specs.Token.{boolean, null, bad}
 use Rattle.json.specs.Tree as tree
 use Rattle.json.specs.Tree.{json_tokens, HasNumbers}
 use Rattle.json.specs.Word.{head, after_whole, after_fraction, after_exponent}
@@ -45,13 +49,47 @@ pub record Grows (src : Source) (old new : List FlatNode) (ts : List Token) : Ty
   pub linked : LinkedFrom src (length old) new
   pub within : AreWithin src old → AreWithin src new
 
--- The line, from one place to another, is these tokens as they are printed, with blanks before each; a comma
+-- bytes within a text of the line that stand for these, whatever stands behind them
+pub record Stands (part text : List ℕ) : Type 0 where
+  pub means : (r : List ℕ) → content plain (part ++ r) ≡ prepend text (content plain r)
+  pub passed : (r : List ℕ) → lex in_string (part ++ r) ≡ lex in_string r
+
+-- a text by which the grammar reads the token: of a text and a name any, of others the one that is printed
+abbrev pub IsSpelling : Token → List ℕ → Type 0
+IsSpelling begin_object t = t ≡ 123 ∷ []
+IsSpelling end_object t = t ≡ 125 ∷ []
+IsSpelling begin_array t = t ≡ 91 ∷ []
+IsSpelling end_array t = t ≡ 93 ∷ []
+IsSpelling (key s) t = (part : List ℕ) × (t ≡ (34 ∷ (part ++ 34 ∷ [])) ++ 58 ∷ []) × Stands part s
+IsSpelling (string s) t = (part : List ℕ) × (t ≡ 34 ∷ (part ++ 34 ∷ [])) × Stands part s
+IsSpelling (number s) t = t ≡ s
+IsSpelling (boolean b) t = t ≡ token_text (boolean b)
+IsSpelling null t = t ≡ token_text null
+IsSpelling bad t = ⊥
+
+-- a token, how it is spelled, and the blanks before it
+pub record Spelled : Type 0 where
+  pub gap : List ℕ
+  pub token : Token
+  pub text : List ℕ
+
+abbrev pub AreSpelled : List Spelled → Type 0
+AreSpelled [] = Unit {0}
+AreSpelled (p ∷ ps) = IsGap p.gap × IsSpelling p.token p.text × AreSpelled ps
+
+-- their text, with commas
+unfoldable pub spell : Bool → List Spelled → List ℕ
+spell after [] = []
+spell after (p ∷ ps) = separator after p.token ++ (p.gap ++ (p.text ++ spell (ends p.token) ps))
+
+-- The line, from one place to another, is these tokens as they may be spelled, with blanks before each; a
+-- comma
 -- stands before the first where a value has just ended.
 pub record Prints (line : List ℕ) (after : Bool) (from end : ℕ) (ts : List Token) : Type 0 where
-  pub printed : List (List ℕ × Token)
-  pub gaps : AreGaps printed
-  pub are : map (λ p. p.1) printed ≡ ts
-  pub text : drop from line ≡ print_spaced after printed ++ drop end line
+  pub printed : List Spelled
+  pub spelled : AreSpelled printed
+  pub are : map (λ p. p.token) printed ≡ ts
+  pub text : drop from line ≡ spell after printed ++ drop end line
 
 -- whether these tokens leave a value just ended
 abbrev pub ended : Bool → List Token → Bool
@@ -101,15 +139,18 @@ pub record IsPlainText (line : List ℕ) (from stop : ℕ) : Type 0 where
   pub ordered : from ≤ stop
   pub inside : stop < length line
   pub plain : escape (piece line from (stop - from)) ≡ piece line from (stop - from)
+  pub stands : Stands (piece line from (stop - from)) (piece line from (stop - from))
   pub text : drop from line ≡ piece line from (stop - from) ++ (34 ∷ drop (stop + 1) line)
 
--- the line from one place to another is a text as it is printed, which was put behind the texts
+-- the line from one place to another stands for a text, which was put behind the texts
 pub record IsWritten (line : List ℕ) (from at : ℕ) (old new : List ℕ) : Type 0 where
   pub more : List ℕ
   pub behind : new ≡ old ++ more
   pub ordered : from ≤ at
   pub inside : at ≤ length line
-  pub text : drop from line ≡ escape more ++ drop at line
+  pub part : List ℕ
+  pub text : drop from line ≡ part ++ drop at line
+  pub stands : Stands part more
 
 -- a quote stands behind it, and the text from a place on among the texts
 pub record IsUnescaped (line : List ℕ) (from stop : ℕ) (old new : List ℕ) (begin count : ℕ) : Type 0 where
@@ -119,11 +160,20 @@ pub record IsUnescaped (line : List ℕ) (from stop : ℕ) (old new : List ℕ) 
   pub begins : begin ≡ length old
   pub counts : count ≡ length new - length old
 
--- the escape that is printed for a byte stands between two places
-pub record IsEscape (line : List ℕ) (at byte end : ℕ) : Type 0 where
+-- four hexadecimal digits from a place on spell a code unit
+pub record IsUnit (line : List ℕ) (at unit : ℕ) : Type 0 where
+  pub is : code_unit (get_or line at 0) (get_or line (at + 1) 0) (get_or line (at + 2) 0)
+      (get_or line (at + 3) 0) ≡ Some unit
+  pub small : unit < 65536
+  pub are_plain : (i : ℕ) → i < 4 → is_plain (get_or line (at + i) 0) ≡ true
+
+-- an escape stands between two places, for this character
+pub record IsEscape (line : List ℕ) (at letter end : ℕ) : Type 0 where
   pub later : at < end
   pub inside : end ≤ length line
-  pub text : drop at line ≡ escape_byte byte ++ drop end line
+  pub part : List ℕ
+  pub text : drop at line ≡ part ++ drop end line
+  pub stands : Stands part (encode_utf8 letter)
 
 -- digits of a short whole number stand between two places
 pub record IsDigits (line : List ℕ) (from end : ℕ) : Type 0 where

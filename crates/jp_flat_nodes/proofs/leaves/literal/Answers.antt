@@ -20,8 +20,8 @@ returns-then-goes_on c h all g =
           c.put.new.nodes.items)
           (sym put.0)
           (leaf src c.args.decimals at (at + 4) c.args.depth _ _ (Truth true) (boolean true)
-          (token.boolean true) (omega arith)
-          refl refl tt refl refl refl (byte_then line at 116 (omega arith) (omega arith)
+          (token.boolean true) _ (omega arith)
+          refl refl tt refl refl refl refl (byte_then line at 116 (omega arith) (omega arith)
           ∙ ap (λ l. 116 ∷ l) more.1) refl tt put.1),
     )
 
@@ -36,8 +36,8 @@ returns-then-goes_on-2 c h all g =
       subst (λ e. Reads src c.args.decimals at e c.args.depth c.args.out.now.nodes.items
           c.put-then-goes_on-2.new.nodes.items)
           (sym put.0)
-          (leaf src c.args.decimals at (at + 4) c.args.depth _ _ Null null token.null (omega arith)
-          refl refl tt refl refl refl (byte_then line at 110 (omega arith) (omega arith)
+          (leaf src c.args.decimals at (at + 4) c.args.depth _ _ Null null token.null _ (omega arith)
+          refl refl tt refl refl refl refl (byte_then line at 110 (omega arith) (omega arith)
           ∙ ap (λ l. 110 ∷ l) more.1) refl tt put.1),
     )
 
@@ -55,8 +55,8 @@ returns-then-byte_at-eq101 c h all g =
       subst (λ e. Reads src c.args.decimals at e c.args.depth c.args.out.now.nodes.items
           c.put-then-byte_at-eq101.new.nodes.items) (sym put.0)
           (leaf src c.args.decimals at (at + 5) c.args.depth _ _ (Truth false) (boolean false)
-          (token.boolean false) (omega arith)
-          refl refl tt refl refl refl (byte_then line at 102 (omega arith) (omega arith)
+          (token.boolean false) _ (omega arith)
+          refl refl tt refl refl refl refl (byte_then line at 102 (omega arith) (omega arith)
           ∙ ap (λ l. 102 ∷ l) (more.1 ∙ ap (λ l. 97 ∷ 108 ∷ 115 ∷ l) (last
           ∙ ap (λ i. 101 ∷ drop i line) back))) refl tt put.1),
     )
