@@ -10,6 +10,7 @@ ghost use Rattle.jp_flat_nodes.specs.Nodes.{token_at};
 
 use crate::digits::read_number;
 use crate::document::FlatDocument;
+use crate::gather::is_same;
 use jp_flat_nodes::FlatNode;
 use jp_number::Number;
 
@@ -335,7 +336,7 @@ impl<'d> FlatMembers<'d> {
         let mut found = None;
         let mut left = self;
         while let Some((member, others)) = left.split_first() {
-            if member.name == name {
+            if is_same(name, member.name) {
                 found = Some(member.value);
             }
             left = others;
