@@ -96,6 +96,7 @@ impl<'d> FlatValue<'d> {
     ghost use Rattle.std.specs.Str.{chars};
     ghost use Rattle.jp_doc.specs.DocumentValue.{whole_in};
     ghost use Rattle.jp_doc.specs.Location.{member_of, item_of};
+    ghost use Rattle.jp_flat.specs.Structured.{is_structured};
     ghost use Rattle.jp_flat.specs.Value.{flat_value, tokens_of, items_value, members_value, text_in};
     ghost use Rattle.jp_flat.specs.Value.{number_in, item_count, IsKind, IsNoArray, IsNoObject};
     ghost use Rattle.jp_number.specs.View.{number_of};
@@ -234,6 +235,19 @@ impl<'d> FlatValue<'d> {
         match self.members() {
             Some(members) => members.last(name),
             None => None,
+        }
+    }
+
+    /// Whether the value is an array or an object.
+    // A descent asks it of each member that it passes.
+    #[inline(always)]
+    pub fn is_structured(self) -> bool
+        ensures { result ≡ is_structured (flat_value self.entry) }
+    {
+        match self.node() {
+            FlatNode::Object(_) => true,
+            FlatNode::Array(_) => true,
+            _ => false,
         }
     }
 }
