@@ -1,5 +1,5 @@
 -- Members whose values are structured, where members are put one after another.
-use Rattle.std.proofs.Common.{◌≡◌, Bool, true, false, List, [], ◌∷◌, ◌++◌, Ordering, Less, Equal, Greater}
+use Rattle.std.proofs.Common.{◌≡◌, Bool, true, false, List, [], ◌∷◌, Ordering, Less, Equal, Greater}
 use Rattle.std.proofs.Common.{is_eq, refl, sym, ap, ◌∙◌, subst, cond, if◌then◌else◌}
 use Rattle.std.specs.List.{filter}
 use Rattle.std.specs.Ordering.{match_ordering}

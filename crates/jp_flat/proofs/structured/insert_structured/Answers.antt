@@ -5,7 +5,7 @@ use Rattle.jp_doc.specs.Tree.{put_member}
 use Rattle.jp_flat.specs.Gathered.{gathered, NamesRise}
 use Rattle.jp_flat.specs.Members.{put_all}
 use Rattle.jp_flat.specs.Structured.{structured}
-use Rattle.jp_flat.specs.Value.{entries, flat_value}
+use Rattle.jp_flat.specs.Value.{flat_value}
 use Rattle.jp_flat.specs.inner.Without.{without}
 use Rattle.jp_flat.proofs.Rising.{rise_put}
 use Rattle.jp_flat.proofs.Structures.{rise_structured, structured_put, structured_gone}
