@@ -106,7 +106,8 @@ kept_structured f (n ∷ ns) none = kept_at (is_structured n.value) f n ns refl 
 
 pub descended_structured : {K : Type 0} (put : K → Node → K) (base : Base) (xs : List CompiledSelector)
     (rest : List CompiledSegment)
-    (n : Node) (listed : List Node) (k mid last : K) → mid ≡ plus put k (reached base rest (picked_by base xs n))
+    (n : Node) (listed : List Node) (k mid last : K)
+    → mid ≡ plus put k (reached base rest (picked_by base xs n))
     → structured_nodes listed ≡ structured_nodes (children n)
     → last ≡ plus put mid
     (flat_map (λ c. reached base rest (flat_map (picked_by base xs) (descendants c))) listed)

@@ -53,9 +53,9 @@ fn insert_structured<'d>(
 }
 
 impl<'d> FlatMembers<'d> {
-    /// Fills `out` with those of the object's members whose values are arrays or objects: each name once, with
-    /// its last value, in rising order. A few are inserted where they belong. Where there are more all members
-    /// are gathered, and the others left out.
+    /// Fills `out` with those of the object's members whose values are arrays or objects: each name once,
+    /// with its last value, in rising order. A few are inserted where they belong. Where there are more all
+    /// members are gathered, and the others left out.
     ///
     /// `AllocError` if a growth was refused.
     pub fn gather_structured(self, out: &mut Vec<FlatMember<'d>>) -> Result<(), AllocError>

@@ -18,7 +18,8 @@ returns-then-branch c = (
 pub returns : goal.returns
 returns c =
     let all = c.gather.new.out.items in
-    let kept = filter_from_retain _ has_structured (λ p x b q k. search rules) _ _ _ c.retain.ensures.filtered in (
+    let kept =
+    filter_from_retain _ has_structured (λ p x b q k. search rules) _ _ _ c.retain.ensures.filtered in (
       gathered all,
       c.in_ok-gather.ensures.members,
       ap gathered kept ∙ sym (filtered all),
