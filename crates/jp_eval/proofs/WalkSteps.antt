@@ -9,12 +9,13 @@ use Rattle.std.specs.Prelude.{IsTrue}
 use Rattle.jp_doc.specs.Json.{Json}
 use Rattle.jp_doc.specs.Location.{Node, node, index, item_of}
 use Rattle.jp_flat.specs.Structured.{is_structured}
+use Rattle.jp_node.specs.ChildNodes.{structured_nodes}
 use Rattle.jp_node.specs.Inside.{IsScalar}
 use Rattle.jp_node.specs.Links.{link_step, link_steps}
 use Rattle.jp_found.specs.Kept.{plus}
 use Rattle.jp_found.specs.Links.{here}
 use Rattle.jp_node.specs.Nodes.{items_at}
-use Rattle.jp_node.specs.Nodes.{children, descendants, node_if_some, structured_nodes}
+use Rattle.jp_node.specs.Nodes.{children, descendants, node_if_some}
 use Rattle.jp_node.specs.Part.{part_value}
 use Rattle.jp_eval.specs.inner.Walk.{picked, picked_by, reached, is_true, sifted}
 use Rattle.jp_node.specs.declared.part.Part.{Part}

@@ -1,5 +1,5 @@
 -- Members that are arrays or objects, and the values that are neither.
-use Rattle.std.proofs.Common.{◌≡◌, ◌≤◌, ℕ, suc, max, Bool, true, false, List, ◌∷◌, [], ◌++◌, cond, not, ◌∙◌}
+use Rattle.std.proofs.Common.{◌≡◌, ◌≤◌, ℕ, max, Bool, true, false, List, ◌∷◌, [], ◌++◌, cond, not, ◌∙◌}
 use Rattle.std.proofs.Common.{refl, ap, arith, if◌then◌else◌}
 use Rattle.std.specs.Prelude.{IsTrue}
 use Rattle.jp_doc.specs.Height.{height, members_height}
@@ -7,8 +7,9 @@ use Rattle.jp_doc.specs.Json.{Text, Json, null, truth, number, text, array, obje
 use Rattle.jp_doc.specs.Json.{Members, no_members, add_member}
 use Rattle.jp_doc.specs.Location.{Location, Node, node, name}
 use Rattle.jp_flat.specs.Structured.{is_structured, structured}
+use Rattle.jp_node.specs.ChildNodes.{structured_nodes}
 use Rattle.jp_node.specs.Inside.{IsScalar}
-use Rattle.jp_node.specs.Nodes.{member_nodes, structured_nodes}
+use Rattle.jp_node.specs.Nodes.{member_nodes}
 
 pub scalar_is : (v : Json) → IsTrue (not (is_structured v)) → IsScalar v
 scalar_is null h = tt

@@ -6,7 +6,8 @@ ghost use Rattle.jp_doc.specs.Height.{height};
 ghost use Rattle.jp_doc.specs.Location.{Location, node, name};
 ghost use Rattle.jp_node.specs.Part.{part_value};
 ghost use Rattle.jp_node.specs.ChildNodes.{listed_nodes, children_height, child_nodes, all_height};
-ghost use Rattle.jp_node.specs.Nodes.{child, children_at, items_at, structured_nodes};
+ghost use Rattle.jp_node.specs.ChildNodes.{structured_nodes};
+ghost use Rattle.jp_node.specs.Nodes.{child, children_at, items_at};
 
 use crate::items::Items;
 use crate::link::Link;

@@ -20,9 +20,9 @@ use Rattle.jp_node.specs.BoundsView.{bounds_value}
 use Rattle.jp_value.specs.Comparison.{compared}
 use Rattle.jp_value.specs.Functions.{tested, length_value}
 use Rattle.jp_value.specs.Functions.{exactly_one}
-use Rattle.jp_node.specs.ChildNodes.{listed_nodes, child_node}
+use Rattle.jp_node.specs.ChildNodes.{listed_nodes, child_node, structured_nodes}
 use Rattle.jp_node.specs.ChildRanges.{range_nodes}
-use Rattle.jp_node.specs.Nodes.{children, descendants, items_at, node_if_some, structured_nodes}
+use Rattle.jp_node.specs.Nodes.{children, descendants, items_at, node_if_some}
 use Rattle.jp_value.specs.Literals.{written_value}
 use Rattle.jp_found.specs.Kept.{kept, put_found, plus}
 use Rattle.jp_found.specs.Links.{here}

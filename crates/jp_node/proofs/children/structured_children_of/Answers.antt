@@ -1,7 +1,8 @@
-use Rattle.std.proofs.Common.{◌≤◌, suc, sym, ap, ◌∙◌, subst, arith}
+use Rattle.std.proofs.Common.{sym, ap, ◌∙◌, arith}
 use Rattle.jp_doc.specs.Height.{height, members_height}
+use Rattle.jp_node.specs.ChildNodes.{structured_nodes}
 use Rattle.jp_node.specs.Inside.{members_in}
-use Rattle.jp_node.specs.Nodes.{member_nodes, children_at, structured_nodes}
+use Rattle.jp_node.specs.Nodes.{member_nodes, children_at}
 use Rattle.jp_node.proofs.Structured.{nodes_structured, height_structured}
 use Rattle.jp_node.proofs.children.structured_children_of.Goals as goal
 

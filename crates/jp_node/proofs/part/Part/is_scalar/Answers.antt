@@ -1,4 +1,4 @@
-use Rattle.std.proofs.Common.{ap, not, subst}
+use Rattle.std.proofs.Common.{not, subst}
 use Rattle.std.specs.Prelude.{IsTrue}
 use Rattle.jp_node.specs.Part.{part_value}
 use Rattle.jp_node.proofs.Structured.{scalar_is}
