@@ -12,6 +12,7 @@ pub mod Rising
 pub mod Sorted
 pub mod FirstBytes
 pub mod Placed
+pub mod Structures
 pub mod OnLiterals
 pub mod Kept
 pub mod Nesting

@@ -10,6 +10,7 @@ ghost use Rattle.jp_flat_nodes.specs.Nodes.{token_at};
 
 use crate::digits::read_number;
 use crate::document::FlatDocument;
+use crate::gather::is_same;
 use jp_flat_nodes::FlatNode;
 use jp_number::Number;
 
@@ -96,6 +97,7 @@ impl<'d> FlatValue<'d> {
     ghost use Rattle.std.specs.Str.{chars};
     ghost use Rattle.jp_doc.specs.DocumentValue.{whole_in};
     ghost use Rattle.jp_doc.specs.Location.{member_of, item_of};
+    ghost use Rattle.jp_flat.specs.Structured.{is_structured};
     ghost use Rattle.jp_flat.specs.Value.{flat_value, tokens_of, items_value, members_value, text_in};
     ghost use Rattle.jp_flat.specs.Value.{IsQuotedText, number_in, item_count, IsKind, IsNoArray, IsNoObject};
     ghost use Rattle.jp_number.specs.View.{number_of};
@@ -253,6 +255,19 @@ impl<'d> FlatValue<'d> {
             None => None,
         }
     }
+
+    /// Whether the value is an array or an object.
+    // A descent asks it of each member that it passes.
+    #[inline(always)]
+    pub fn is_structured(self) -> bool
+        ensures { result ≡ is_structured (flat_value self.entry) }
+    {
+        match self.node() {
+            FlatNode::Object(_) => true,
+            FlatNode::Array(_) => true,
+            _ => false,
+        }
+    }
 }
 
 impl<'d> FlatMember<'d> {
@@ -373,7 +388,7 @@ impl<'d> FlatMembers<'d> {
         let mut found = None;
         let mut left = self;
         while let Some((member, others)) = left.split_first() {
-            if member.name == name {
+            if is_same(name, member.name) {
                 found = Some(member.value);
             }
             left = others;
