@@ -1,12 +1,16 @@
 -- The steps of the walk.
 use Rattle.std.proofs.Common.{◌≡◌, ℕ, ◌+◌, ◌-◌, ◌<◌, ◌≤◌, List, [], ◌∷◌, ◌++◌, length}
 use Rattle.std.proofs.Common.{length-append, get_or, take, drop, Option, Some, None, option_to_list, Bool}
-use Rattle.std.proofs.Common.{true, false, ◌&&◌, ◌||◌, refl, sym, ap, ◌∙◌, arith}
+use Rattle.std.proofs.Common.{true, false, cond, not, ◌&&◌, ◌||◌, refl, sym, ap, ◌∙◌, subst, arith}
 use Rattle.std.proofs.Math.Seq.{take-append_seam}
 use Rattle.std.proofs.lemmas.List.{at_drop_more, at_drop_all, map-append}
 use Rattle.std.specs.List.{flat_map, list_any, list_all}
+use Rattle.std.specs.Prelude.{IsTrue}
 use Rattle.jp_doc.specs.Json.{Json}
 use Rattle.jp_doc.specs.Location.{Node, node, index, item_of}
+use Rattle.jp_flat.specs.Structured.{is_structured}
+use Rattle.jp_node.specs.ChildNodes.{structured_nodes}
+use Rattle.jp_node.specs.Inside.{IsScalar}
 use Rattle.jp_node.specs.Links.{link_step, link_steps}
 use Rattle.jp_found.specs.Kept.{plus}
 use Rattle.jp_found.specs.Links.{here}
@@ -20,7 +24,9 @@ use Rattle.jp_compiled.specs.declared.query.CompiledLogical.{CompiledLogical}
 use Rattle.jp_compiled.specs.declared.query.CompiledSegment.{CompiledSegment}
 use Rattle.jp_compiled.specs.declared.query.CompiledSelector.{CompiledSelector}
 use Rattle.jp_eval.specs.inner.Base.{Base}
+use Rattle.jp_node.proofs.Structured.{scalar_is}
 use Rattle.jp_eval.proofs.Chains.{reached-append, reached-descend, reached-none}
+use Rattle.jp_eval.proofs.Idle.{nothing_below}
 use Rattle.jp_found.proofs.Keeping.{stepped, ended, plus-append}
 
 front_of_one_more : (path : List Link) (l : Link) → take (length (path ++ l ∷ []) - 1) (path ++ l ∷ [])
@@ -82,6 +88,38 @@ descended put base xs rest n k mid last here below =
     ∙ sym (plus-append put k (reached base rest (picked_by base xs n))
     (flat_map (λ c. reached base rest (flat_map (picked_by base xs) (descendants c))) (children n)))
     ∙ ap (plus put k) (sym (reached-descend base xs rest n))
+
+-- ---- below a node, where only arrays and objects are gone over
+
+kept_at : (b : Bool) (f : Node → List Node) (n : Node) (ns : List Node) → is_structured n.value ≡ b
+    → ((m : Node) → IsScalar m.value → f m ≡ []) → flat_map f (structured_nodes ns) ≡ flat_map f ns
+    → flat_map f (cond b (n ∷ structured_nodes ns) (structured_nodes ns)) ≡ f n ++ flat_map f ns
+kept_at true f n ns is none h = ap (λ l. f n ++ l) h
+kept_at false f n ns is none h =
+    let scalar = scalar_is n.value (subst (λ b. IsTrue (not b)) (sym is) refl) in
+    h ∙ ap (λ l. l ++ flat_map f ns) (sym (none n scalar))
+
+-- what finds nothing at a scalar finds all at the others
+kept_structured : (f : Node → List Node) (ns : List Node) → ((n : Node) → IsScalar n.value → f n ≡ [])
+    → flat_map f (structured_nodes ns) ≡ flat_map f ns
+kept_structured f [] none = refl
+kept_structured f (n ∷ ns) none = kept_at (is_structured n.value) f n ns refl none (kept_structured f ns none)
+
+pub descended_structured : {K : Type 0} (put : K → Node → K) (base : Base) (xs : List CompiledSelector)
+    (rest : List CompiledSegment)
+    (n : Node) (listed : List Node) (k mid last : K)
+    → mid ≡ plus put k (reached base rest (picked_by base xs n))
+    → structured_nodes listed ≡ structured_nodes (children n)
+    → last ≡ plus put mid
+    (flat_map (λ c. reached base rest (flat_map (picked_by base xs) (descendants c))) listed)
+    → last ≡ plus put k (reached base rest (flat_map (picked_by base xs) (descendants n)))
+descended_structured put base xs rest n listed k mid last here same below =
+    let f : Node → List Node = λ c. reached base rest (flat_map (picked_by base xs) (descendants c)) in
+    let none : (m : Node) → IsScalar m.value → f m ≡ [] =
+    λ m is. nothing_below base m.location m.value is xs rest in
+    descended put base xs rest n k mid last here
+    (below ∙ ap (plus put mid) (sym (kept_structured f listed none) ∙ ap (flat_map f) same
+    ∙ kept_structured f (children n) none))
 
 -- ---- places
 

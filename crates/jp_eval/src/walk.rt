@@ -30,7 +30,7 @@ use jp_found::{
 };
 use jp_node::{
     Child, ChildRange, Kind, Link, Part, PathStack, Visit, children_of, first_item, member_at,
-    place_in, sliced,
+    place_in, sliced, structured_children_of,
 };
 use jp_tree::Operator;
 use jp_value::{
@@ -100,6 +100,22 @@ fn is_idle(action: Action<'_>, value: Part<'_>) -> bool
     }
 }
 
+/// Whether these selectors find what they select without a list of the children.
+// It tells only which way is quicker: either finds the same.
+#[inline(always)]
+fn list_nothing(selectors: &[CompiledSelector]) -> bool {
+    for selector in selectors {
+        match selector {
+            CompiledSelector::Name(_) => (),
+            CompiledSelector::Index(_) => (),
+            CompiledSelector::Slice(_) => (),
+            CompiledSelector::Wild => return false,
+            CompiledSelector::Filter(_) => return false,
+        }
+    }
+    true
+}
+
 #[cycle(walk)]
 pub(crate) fn go<'v, V: Visit + Drop>(
     context: &Context<'v>,
@@ -115,6 +131,13 @@ pub(crate) fn go<'v, V: Visit + Drop>(
     match action {
         Action::Run(rest) => run(context, rest, value, path, found),
         Action::Descend(selectors, rest) => {
+            if list_nothing(selectors) {
+                let opened = Opened { value, range: None };
+                apply(context, selectors, rest, opened, path, found)?;
+                // What is neither an array nor an object has nothing below it.
+                let children = structured_children_of(context.alloc, value)?;
+                return each_of(context, action, ChildRange::all(&children), path, found);
+            }
             let children = children_of(context.alloc, value)?;
             let range = ChildRange::all(&children);
             // They are listed once, for the selectors and to go down.

@@ -14,10 +14,10 @@ use Rattle.serde_json.specs.Read.{max_depth}
 use Rattle.jp_doc.specs.Json as json
 use Rattle.jp_doc.specs.Tree.{tree_items}
 use Rattle.jp_flat.specs.Flat.{value_at}
-use Rattle.jp_flat_nodes.specs.Nodes.{token_at, tokens_at}
+use Rattle.jp_flat_nodes.specs.Nodes.{Source, source, token_at, tokens_at}
 use Rattle.jp_flat_nodes.specs.declared.node.FlatNode.{FlatNode}
 use Rattle.jp_flat_nodes.specs.declared.node.FlatNode.TheVariants.{Object, EndObject, Array, EndArray, Key}
-use Rattle.jp_flat_nodes.specs.declared.node.FlatNode.TheVariants.{Text}
+use Rattle.jp_flat_nodes.specs.declared.node.FlatNode.TheVariants.{Text, EscapedKey, Escaped}
 use Rattle.jp_flat_nodes.specs.declared.node.FlatNode.TheVariants.{Number, Truth, Null}
 use Rattle.jp_flat.specs.inner.Plain.{is_flat, is_fit, items_are_fit}
 use Rattle.jp_doc.specs.Reading.{max_line}
@@ -53,7 +53,8 @@ array_inside ts f js e = record {
 
 array_shape : (ts : List Token) (f : Flat (Token.begin_array ∷ ts))
     → (js : text.Items) × (f.source ≡ text.array js)
-array_shape ts f = shape [] (Array 0) ts f.source max_depth f.rest (read_of_flat (Token.begin_array ∷ ts) f)
+array_shape ts f =
+    shape (source [] []) (Array 0) ts f.source max_depth f.rest (read_of_flat (Token.begin_array ∷ ts) f)
 
 -- inside of an array
 pub in_items : (ts : List Token) → is_flat (Token.begin_array ∷ ts) ≡ true → InItems ts
@@ -169,18 +170,20 @@ abbrev first_ends : List Token → common.Bool
 first_ends [] = false
 first_ends (t ∷ ts) = is_end_array t
 
-ends_node : (bytes : List ℕ) (n : FlatNode) → (n ≡ EndArray → ⊥) → is_end_array (token_at bytes n) ≡ true → ⊥
+ends_node : (bytes : Source) (n : FlatNode) → (n ≡ EndArray → ⊥) → is_end_array (token_at bytes n) ≡ true → ⊥
 ends_node bytes (Object a) p e = absurd (cc)
 ends_node bytes EndObject p e = absurd (cc)
 ends_node bytes (Array a) p e = absurd (cc)
 ends_node bytes EndArray p e = p refl
 ends_node bytes (Key from count) p e = absurd (cc)
 ends_node bytes (Text from count) p e = absurd (cc)
+ends_node bytes (EscapedKey from count) p e = absurd (cc)
+ends_node bytes (Escaped from count) p e = absurd (cc)
 ends_node bytes (Number from count) p e = absurd (cc)
 ends_node bytes (Truth b) p e = absurd (cc)
 ends_node bytes Null p e = absurd (cc)
 
-pub one_more_item : (bytes : List ℕ) (ts us : List Token) (i : InItems ts) (n : FlatNode)
+pub one_more_item : (bytes : Source) (ts us : List Token) (i : InItems ts) (n : FlatNode)
     → ts ≡ token_at bytes n ∷ us
     → (n ≡ EndArray → ⊥) → (j : text.Json) × (js : text.Items) × (i.source ≡ text.item j js)
 one_more_item bytes ts us i n e p = go i.source refl
@@ -217,7 +220,7 @@ pub record Split (ts after : List Token) : Type 0 where
       × (value_at (Token.begin_array ∷ ts) ≡ json.array (json.add_item (value_at ts) vs))
       × (value_at (Token.begin_array ∷ after) ≡ json.array vs)
 
-pub split_items : (bytes : List ℕ) (ts us after : List Token) (n : FlatNode)
+pub split_items : (bytes : Source) (ts us after : List Token) (n : FlatNode)
     → is_flat (Token.begin_array ∷ ts) ≡ true
     → ts ≡ token_at bytes n ∷ us → (n ≡ EndArray → ⊥)
     → ((depth : ℕ) (j : text.Json) (rest : List Token) → text.value depth ts ≡ Some (j, rest) → rest ≡ after)
@@ -256,7 +259,7 @@ some_items (text.item j js) rest =
       some_token j,
     )
 
-pub items_within : (bytes : List ℕ) (ns : List FlatNode) (at : ℕ)
+pub items_within : (bytes : Source) (ns : List FlatNode) (at : ℕ)
     → is_flat (Token.begin_array ∷ drop at (tokens_at bytes ns)) ≡ true
     → at < length ns
 items_within bytes ns at h =

@@ -17,12 +17,11 @@ use Rattle.jp_doc.specs.Json as json
 use Rattle.jp_doc.specs.Json.{Text, Json}
 use Rattle.jp_flat.specs.Document.{document_tokens}
 use Rattle.jp_flat.specs.Flat.{value_at}
-use Rattle.jp_flat_nodes.specs.Nodes.{token_at, tokens_at}
+use Rattle.jp_flat_nodes.specs.Nodes.{Source, source, token_at, tokens_at}
 use Rattle.jp_flat_nodes.specs.declared.node.FlatNode.{FlatNode}
-use Rattle.jp_flat_nodes.specs.declared.node.FlatNode.TheVariants as node
-use Rattle.jp_flat_nodes.specs.declared.node.FlatNode.TheVariants.{Object, EndObject, Array, EndArray, Key}
-use Rattle.jp_flat_nodes.specs.declared.node.FlatNode.TheVariants.{Number, Truth, Null}
+use Rattle.jp_flat_nodes.specs.declared.node.FlatNode.TheVariants.{Object}
 use Rattle.jp_doc.specs.Reading.{max_line}
+use Rattle.jp_flat.specs.inner.Held.{IsNoKey}
 use Rattle.jp_flat.specs.inner.Plain.{is_flat, is_fit, members_are_fit}
 use Rattle.jp_flat.specs.Members.{entries_of, entries_read, entries_at, put_all}
 use Rattle.jp_flat.specs.Value.{members_value, entries}
@@ -57,7 +56,7 @@ object_inside ts f ms e = record {
 pub in_members : (ts : List Token) → is_flat (Token.begin_object ∷ ts) ≡ true → InMembers ts
 in_members ts h =
     let f = flat_of (Token.begin_object ∷ ts) h in
-    let sh : (ms : text.Members) × (f.source ≡ text.object ms) = shape []
+    let sh : (ms : text.Members) × (f.source ≡ text.object ms) = shape (source [] [])
     (Object 0) ts f.source max_depth f.rest
     (read_of_flat (Token.begin_object ∷ ts) f) in
     object_inside ts f sh.0 sh.1
@@ -219,7 +218,7 @@ some_members : (ms : text.Members) (rest : List Token) → 0 < length (members_t
 some_members text.no_members rest = omega arith
 some_members (text.member k j ms) rest = omega arith
 
-pub members_within : (bytes : List ℕ) (ns : List FlatNode) (at : ℕ)
+pub members_within : (bytes : Source) (ns : List FlatNode) (at : ℕ)
     → is_flat (Token.begin_object ∷ drop at (tokens_at bytes ns)) ≡ true
     → at < length ns
 members_within bytes ns at h =
@@ -232,7 +231,7 @@ members_within bytes ns at h =
     omega (arith, ap length none, some_members i.source i.rest))
 
 -- the value of the first member begins behind its key
-pub value_within : (bytes : List ℕ) (ns : List FlatNode) (at : ℕ) (k : List ℕ)
+pub value_within : (bytes : Source) (ns : List FlatNode) (at : ℕ) (k : List ℕ)
     → is_flat (Token.begin_object ∷ drop at (tokens_at bytes ns)) ≡ true
     → drop at (tokens_at bytes ns) ≡ Token.key k ∷ drop (at + 1) (tokens_at bytes ns) → at + 1 < length ns
 value_within bytes ns at k h e =
@@ -269,14 +268,14 @@ first_is_key (t ∷ ts) = is_key t
 not_key : (ts : List Token) → first_is_key ts ≡ false → NoKey ts
 not_key ts h k us e = true≢false (sym (ap first_is_key e) ∙ h)
 
-pub no_key : (bytes : List ℕ) (n : FlatNode) (us : List Token) → ((from count : ℕ) → n ≡ Key from count → ⊥)
-    → NoKey (token_at bytes n ∷ us)
-no_key bytes (Object a) us p = not_key _ refl
-no_key bytes EndObject us p = not_key _ refl
-no_key bytes (Array a) us p = not_key _ refl
-no_key bytes EndArray us p = not_key _ refl
-no_key bytes (Key from count) us p = absurd (p from count refl)
-no_key bytes (node.Text from count) us p = not_key _ refl
-no_key bytes (Number from count) us p = not_key _ refl
-no_key bytes (Truth b) us p = not_key _ refl
-no_key bytes Null us p = not_key _ refl
+pub no_key : (t : Token) (us : List Token) → IsNoKey t → NoKey (t ∷ us)
+no_key Token.begin_object us p = not_key _ refl
+no_key Token.end_object us p = not_key _ refl
+no_key Token.begin_array us p = not_key _ refl
+no_key Token.end_array us p = not_key _ refl
+no_key (Token.key s) us p = absurd (p s refl)
+no_key (Token.string s) us p = not_key _ refl
+no_key (Token.number s) us p = not_key _ refl
+no_key (Token.boolean b) us p = not_key _ refl
+no_key Token.null us p = not_key _ refl
+no_key Token.bad us p = not_key _ refl

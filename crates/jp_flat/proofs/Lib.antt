@@ -12,6 +12,7 @@ pub mod Rising
 pub mod Sorted
 pub mod FirstBytes
 pub mod Placed
+pub mod Structures
 pub mod OnLiterals
 pub mod Kept
 pub mod Nesting
@@ -23,7 +24,8 @@ pub mod WholeFaults
 pub mod Faults
 pub mod Decimal
 pub mod ReadNumbers
-pub mod Opening
+pub mod Naming
+mod Opening
 pub mod Pieces
 pub mod Close
 pub mod ReadNodes

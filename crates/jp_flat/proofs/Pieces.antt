@@ -1,7 +1,7 @@
 -- The texts of a document's nodes are UTF-8.
 use Rattle.std.proofs.Common.{◌≡◌, ℕ, zero, suc, ◌+◌, ◌≤◌, Bool, true, false, cond, ◌&&◌, ◌||◌, ◌==◌, List}
 use Rattle.std.proofs.Common.{[]}
-use Rattle.std.proofs.Common.{◌∷◌, length, drop, get_or, Option, Some, None, option_and_then, refl}
+use Rattle.std.proofs.Common.{◌∷◌, drop, get_or, Option, Some, None, option_and_then, refl}
 use Rattle.std.proofs.Common.{sym, ap, ◌∙◌, arith, eqb-true, lt-ltb}
 use Rattle.std.proofs.Props.{props}
 use Rattle.std.proofs.lemmas.Bool.{and_parts, leb-true}
@@ -16,19 +16,21 @@ use Rattle.json.proofs.Found.{Some_inj}
 use Rattle.json.proofs.Printed.Utf8.{are_ascii, IsUtf8-are_ascii}
 use Rattle.jp_doc.proofs.LineTexts.{IsText, AreTexts}
 use Rattle.jp_flat.specs.inner.Held.{HasPiece}
-use Rattle.jp_flat_nodes.specs.Nodes.{piece, token_at, tokens_at, IsWithin, AreWithin}
+use Rattle.jp_flat_nodes.specs.Nodes.{Source, piece, token_at, tokens_at, IsWithin, AreWithin}
 use Rattle.jp_flat_nodes.specs.declared.node.FlatNode.{FlatNode}
 use Rattle.jp_flat_nodes.specs.declared.node.FlatNode.TheVariants.{Object, EndObject, Array, EndArray, Key}
-use Rattle.jp_flat_nodes.specs.declared.node.FlatNode.TheVariants.{Text}
+use Rattle.jp_flat_nodes.specs.declared.node.FlatNode.TheVariants.{Text, EscapedKey, Escaped}
 use Rattle.jp_flat_nodes.specs.declared.node.FlatNode.TheVariants.{Number, Truth, Null}
 
-pub HasPiece-IsProp : (text : List ℕ) (n : FlatNode) → IsProp (HasPiece text n)
+pub HasPiece-IsProp : (text : Source) (n : FlatNode) → IsProp (HasPiece text n)
 HasPiece-IsProp text (Object end) = hlevel props
 HasPiece-IsProp text EndObject = hlevel props
 HasPiece-IsProp text (Array end) = hlevel props
 HasPiece-IsProp text EndArray = hlevel props
 HasPiece-IsProp text (Key from count) = hlevel props
 HasPiece-IsProp text (Text from count) = hlevel props
+HasPiece-IsProp text (EscapedKey from count) = hlevel props
+HasPiece-IsProp text (Escaped from count) = hlevel props
 HasPiece-IsProp text (Number from count) = hlevel props
 HasPiece-IsProp text (Truth b) = hlevel props
 HasPiece-IsProp text Null = hlevel props
@@ -143,22 +145,23 @@ number_is_ascii s e = go (after_whole (after_minus s)) refl e
 
 -- ---- of each node
 
-one_piece : (text : List ℕ) (n : FlatNode) → IsText (token_at text n) → IsPrintableOrBad (token_at text n)
-    → IsWithin (length text) n → HasPiece text n
-one_piece text (Object end) h p w = tt
-one_piece text EndObject h p w = tt
-one_piece text (Array end) h p w = tt
-one_piece text EndArray h p w = tt
-one_piece text (Key from count) h p w = (w, is_utf8-from_IsUtf8 _ h)
-one_piece text (Text from count) h p w = (w, is_utf8-from_IsUtf8 _ h)
-one_piece text (Number from count) h p w =
-    (w, is_utf8-from_IsUtf8 _ (IsUtf8-are_ascii _ (number_is_ascii (piece text from count) p)))
-one_piece text (Truth b) h p w = tt
-one_piece text Null h p w = tt
+one_piece : (src : Source) (n : FlatNode) → IsText (token_at src n) → IsPrintableOrBad (token_at src n)
+    → IsWithin src n → HasPiece src n
+one_piece src (Object end) h p w = tt
+one_piece src EndObject h p w = tt
+one_piece src (Array end) h p w = tt
+one_piece src EndArray h p w = tt
+one_piece src (Key from count) h p w = ((omega (arith, w.0.before), is_utf8-from_IsUtf8 _ h), w)
+one_piece src (Text from count) h p w = ((omega (arith, w.before), is_utf8-from_IsUtf8 _ h), w)
+one_piece src (EscapedKey from count) h p w = (w, is_utf8-from_IsUtf8 _ h)
+one_piece src (Escaped from count) h p w = (w, is_utf8-from_IsUtf8 _ h)
+one_piece src (Number from count) h p w =
+    (w, is_utf8-from_IsUtf8 _ (IsUtf8-are_ascii _ (number_is_ascii (piece src.line from count) p)))
+one_piece src (Truth b) h p w = tt
+one_piece src Null h p w = tt
 
-pub pieces_are : (text : List ℕ) (ns : List FlatNode) → AreTexts (tokens_at text ns)
-    → ArePrintableOrBad (tokens_at text ns) → AreWithin (length text) ns
-    → (i : ℕ) → HasPiece text (get_or ns i Null)
-pieces_are text [] h p w i = tt
-pieces_are text (n ∷ ns) h p w zero = one_piece text n h.0 p.0 w.0
-pieces_are text (n ∷ ns) h p w (suc i) = pieces_are text ns h.1 p.1 w.1 i
+pub pieces_are : (src : Source) (ns : List FlatNode) → AreTexts (tokens_at src ns)
+    → ArePrintableOrBad (tokens_at src ns) → AreWithin src ns → (i : ℕ) → HasPiece src (get_or ns i Null)
+pieces_are src [] h p w i = tt
+pieces_are src (n ∷ ns) h p w zero = one_piece src n h.0 p.0 w.0
+pieces_are src (n ∷ ns) h p w (suc i) = pieces_are src ns h.1 p.1 w.1 i

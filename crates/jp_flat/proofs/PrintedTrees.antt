@@ -48,7 +48,7 @@ use Rattle.jp_flat.proofs.ReadNodes.{few_nodes, held}
 use Rattle.jp_flat.proofs.Reading.{Flat, flat_is, value_is}
 use Rattle.jp_flat.proofs.WholeFaults.{number_read, is_read}
 use Rattle.jp_flat.proofs.WholeTexts.{tells_row}
-use Rattle.jp_flat_nodes.specs.Nodes.{tokens_at, AreLinked, AreWithin}
+use Rattle.jp_flat_nodes.specs.Nodes.{Source, tokens_at, AreLinked, AreWithin}
 use Rattle.jp_flat_nodes.specs.declared.node.FlatNode.{FlatNode}
 
 -- ---- a number that is printed, and that is no float when it is read, is whole
@@ -204,8 +204,9 @@ printed_flat s v p =
       fit = printed_fits s v p;
     }
 
-pub laid_printed : (s bytes : List ℕ) (nodes : List FlatNode) (tape : List Token) (v : Json) → IsPrinted s v
-    → tape ≡ tokens s → tokens_at bytes nodes ≡ tape → AreLinked tape nodes → AreWithin (length bytes) nodes
+pub laid_printed : (s : List ℕ) (bytes : Source) (nodes : List FlatNode) (tape : List Token) (v : Json)
+    → IsPrinted s v
+    → tape ≡ tokens s → tokens_at bytes nodes ≡ tape → AreLinked tape nodes → AreWithin bytes nodes
     → IsReadAs (Ok v) bytes nodes
 unfolding printed_flat
 laid_printed s bytes nodes tape v p is same linked within =
@@ -219,10 +220,10 @@ laid_printed s bytes nodes tape v p is same linked within =
       value = sym (ap unless_long value ∙ rw p.short_arrays refl);
     }
 
-pub laid_on : {E : Type 0} (r : Result (Unit {0}) E) (s bytes : List ℕ) (nodes : List FlatNode)
+pub laid_on : {E : Type 0} (r : Result (Unit {0}) E) (s : List ℕ) (bytes : Source) (nodes : List FlatNode)
     (tape laid : List Token) (v : Json) → IsPrinted s v → tape ≡ tokens s → laid ≡ tape
     → OnOk r (tokens_at bytes nodes ≡ laid) → OnOk r (AreLinked laid nodes)
-    → OnOk r (AreWithin (length bytes) nodes) → OnOk r (IsReadAs (Ok v) bytes nodes)
+    → OnOk r (AreWithin bytes nodes) → OnOk r (IsReadAs (Ok v) bytes nodes)
 laid_on (Ok done) s bytes nodes tape laid v p is same are linked within =
     laid_printed s bytes nodes tape v p is (are ∙ same) (subst (λ ts. AreLinked ts nodes) same linked) within
 laid_on (Err e) s bytes nodes tape laid v p is same are linked within = tt

@@ -30,7 +30,7 @@ use Rattle.jp_flat.proofs.Numbers.{below, both, both_back}
 use Rattle.jp_flat.proofs.Pieces.{pieces_are}
 use Rattle.jp_flat.proofs.Reading.{of_tree, flat_is, read_flat}
 use Rattle.jp_flat_nodes.specs.Digits.{are_digits, are_few_digits, is_short_whole}
-use Rattle.jp_flat_nodes.specs.Nodes.{tokens_at, token_at, AreLinked, AreWithin, IsRead, are_taken}
+use Rattle.jp_flat_nodes.specs.Nodes.{Source, tokens_at, token_at, AreLinked, AreWithin, IsRead, are_taken}
 use Rattle.jp_flat_nodes.specs.Nodes.{items_are_taken, members_are_taken}
 use Rattle.jp_flat_nodes.specs.declared.node.FlatNode.{FlatNode}
 use Rattle.jp_number.specs.declared.numbers.Numbers.TheVariants.{Decimals}
@@ -99,21 +99,22 @@ mutual
       let others = plain_members ms r one.1 b.1 in
       (both_back _ _ (is_utf8-from_IsUtf8 k h.0) (both_back _ _ one.0 others.0), others.1)
 
-plain_line : (line : List ℕ) (nodes : List FlatNode) (r : IsRead false line nodes) → IsUtf8 line
+plain_line : (src : Source) (nodes : List FlatNode) (r : IsRead false src nodes) → IsUtf8 src.line
     → is_plain r.value ≡ true
-plain_line line nodes r u =
-    let spelled = tokens-document line r.value r.is ∙ sym (append-nil (json_tokens r.value)) in
-    (plain_tree r.value [] (subst AreTexts spelled (tokens_are_texts line u)) r.numbers).0
+plain_line src nodes r u =
+    let spelled = tokens-document src.line r.value r.is ∙ sym (append-nil (json_tokens r.value)) in
+    (plain_tree r.value [] (subst AreTexts spelled (tokens_are_texts src.line u)) r.numbers).0
 
 -- ---- nodes that are the tokens of a line
 
-pub few_nodes : (line bytes : List ℕ) (nodes : List FlatNode) → tokens_at bytes nodes ≡ tokens line
+pub few_nodes : (line : List ℕ) (bytes : Source) (nodes : List FlatNode) → tokens_at bytes nodes ≡ tokens line
     → length line ≤ max_line → length nodes ≤ 268435456
 few_nodes line bytes nodes are short =
     omega (arith, ap length are, length-map nodes (token_at bytes), few_tokens line, short)
 
-pub held : (line bytes : List ℕ) (nodes : List FlatNode) → tokens_at bytes nodes ≡ tokens line → IsUtf8 line
-    → AreLinked (tokens line) nodes → AreWithin (length bytes) nodes → is_flat (tokens line) ≡ true
+pub held : (line : List ℕ) (bytes : Source) (nodes : List FlatNode) → tokens_at bytes nodes ≡ tokens line
+    → IsUtf8 line
+    → AreLinked (tokens line) nodes → AreWithin bytes nodes → is_flat (tokens line) ≡ true
     → IsHeld bytes nodes
 held line bytes nodes are u linked within flat = record {
   flat = ap is_flat are ∙ flat;
@@ -123,32 +124,35 @@ held line bytes nodes are u linked within flat = record {
 }
 
 -- a line that was read in one pass
-pub read_whole : (line : List ℕ) (nodes : List FlatNode) → IsRead false line nodes → IsUtf8 line
-    → length line ≤ max_line
-    → IsReadAs (reading line) line nodes
-read_whole line nodes r u short =
-    let flat = of_tree line r.value r.is u short r.nests (plain_line line nodes r u) in
+pub read_whole : (src : Source) (nodes : List FlatNode) → IsRead false src nodes → IsUtf8 src.line
+    → length src.line ≤ max_line
+    → IsReadAs (reading src.line) src nodes
+read_whole src nodes r u short =
+    let line = src.line in
+    let flat = of_tree line r.value r.is u short r.nests (plain_line src nodes r u) in
     record {
       few = r.few;
-      held = held line line nodes r.are u r.linked r.within (flat_is (tokens line) flat.flat);
+      held = held line src nodes r.are u r.linked r.within (flat_is (tokens line) flat.flat);
       value = flat.reads ∙ ap (λ ts. unless_long (value_at ts)) (sym r.are);
     }
 
-pub read_grammar : (line : List ℕ) (nodes : List FlatNode) → IsRead true line nodes → IsUtf8 line
-    → length line ≤ max_line → IsReadAs (reading_in Decimals line) line nodes
-read_grammar line nodes r u short =
+pub read_grammar : (src : Source) (nodes : List FlatNode) → IsRead true src nodes → IsUtf8 src.line
+    → length src.line ≤ max_line → IsReadAs (reading_in Decimals src.line) src nodes
+read_grammar src nodes r u short =
+    let line = src.line in
     let value = value_of_pass line u (subst IsSome (sym r.is) refl) short
     (short_passes line r.value r.is r.nests (none_is_long r.value r.spelled r.numbers)) in
     record {
       few = r.few;
-      held = held line line nodes r.are u r.linked r.within value.0;
+      held = held line src nodes r.are u r.linked r.within value.0;
       value = value.1 ∙ ap (λ ts. unless_long (value_at ts)) (sym r.are);
     }
 
 -- a line that the kit has read, and whose nodes were laid
-pub laid_whole : (line bytes : List ℕ) (nodes : List FlatNode) (tape : List Token) → tape ≡ tokens line
+pub laid_whole : (line : List ℕ) (bytes : Source) (nodes : List FlatNode) (tape : List Token)
+    → tape ≡ tokens line
     → IsSome (text.document line) → tokens_at bytes nodes ≡ tape → AreLinked tape nodes
-    → AreWithin (length bytes) nodes → IsUtf8 line → length line ≤ max_line
+    → AreWithin bytes nodes → IsUtf8 line → length line ≤ max_line
     → is_plain_from 0 tape ≡ true → IsReadAs (reading line) bytes nodes
 laid_whole line bytes nodes tape is some same linked within u short plain =
     let are = same ∙ is in
@@ -160,9 +164,10 @@ laid_whole line bytes nodes tape is some same linked within u short plain =
       value = flat.reads ∙ ap (λ ts. unless_long (value_at ts)) (sym are);
     }
 
-pub laid_grammar : (line bytes : List ℕ) (nodes : List FlatNode) (tape : List Token) → tape ≡ tokens line
+pub laid_grammar : (line : List ℕ) (bytes : Source) (nodes : List FlatNode) (tape : List Token)
+    → tape ≡ tokens line
     → IsSome (text.document line) → tokens_at bytes nodes ≡ tape → AreLinked tape nodes
-    → AreWithin (length bytes) nodes → IsUtf8 line → length line ≤ max_line
+    → AreWithin bytes nodes → IsUtf8 line → length line ≤ max_line
     → pass_fault tape ≡ None → IsReadAs (reading_in Decimals line) bytes nodes
 laid_grammar line bytes nodes tape is some same linked within u short none =
     let are = same ∙ is in

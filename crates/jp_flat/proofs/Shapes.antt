@@ -19,10 +19,10 @@ use Rattle.jp_doc.specs.Json.{Json}
 use Rattle.jp_doc.specs.Tree.{text_number, tree_json, tree_items, tree_members}
 use Rattle.jp_flat.specs.Flat.{value_at}
 use Rattle.jp_flat.specs.inner.Plain.{is_flat, is_fit, is_fit_number}
-use Rattle.jp_flat_nodes.specs.Nodes.{piece, token_at, tokens_at}
+use Rattle.jp_flat_nodes.specs.Nodes.{Source, piece, token_at, tokens_at}
 use Rattle.jp_flat_nodes.specs.declared.node.FlatNode.{FlatNode}
 use Rattle.jp_flat_nodes.specs.declared.node.FlatNode.TheVariants.{Object, EndObject, Array, EndArray, Key}
-use Rattle.jp_flat_nodes.specs.declared.node.FlatNode.TheVariants.{Text}
+use Rattle.jp_flat_nodes.specs.declared.node.FlatNode.TheVariants.{Text, EscapedKey, Escaped}
 use Rattle.jp_flat_nodes.specs.declared.node.FlatNode.TheVariants.{Number, Truth, Null}
 use Rattle.jp_flat.specs.Value.{text_in, number_in, IsNoArray, IsNoObject}
 use Rattle.jp_flat.proofs.PlainTokens.{some_token}
@@ -50,7 +50,7 @@ by_link all i end d j rest link e =
     ap (λ z. z.1) (Some_inj _ _ (one_reading d link.0 (drop i all) _ _ e other.1))
 
 -- the nodes of a document with these texts
-module _ (bytes : List ℕ) where
+module _ (bytes : Source) where
   pub here : (ns : List FlatNode) (i : ℕ) (d : FlatNode) → i < length ns
       → drop i (tokens_at bytes ns) ≡ token_at bytes (get_or ns i d) ∷ drop (i + 1) (tokens_at bytes ns)
   here ns i d h =
@@ -69,8 +69,10 @@ module _ (bytes : List ℕ) where
   Shape (Array a) ts j rest = (js : text.Items) × (j ≡ text.array js)
   Shape EndArray ts j rest = ⊥
   Shape (Key from count) ts j rest = ⊥
-  Shape (Text from count) ts j rest = (j ≡ text.string (piece bytes from count)) × (rest ≡ ts)
-  Shape (Number from count) ts j rest = (j ≡ text.number (piece bytes from count)) × (rest ≡ ts)
+  Shape (Text from count) ts j rest = (j ≡ text.string (piece bytes.line from count)) × (rest ≡ ts)
+  Shape (EscapedKey from count) ts j rest = ⊥
+  Shape (Escaped from count) ts j rest = (j ≡ text.string (piece bytes.texts from count)) × (rest ≡ ts)
+  Shape (Number from count) ts j rest = (j ≡ text.number (piece bytes.line from count)) × (rest ≡ ts)
   Shape (Truth b) ts j rest = (j ≡ text.boolean b) × (rest ≡ ts)
   Shape Null ts j rest = (j ≡ text.null) × (rest ≡ ts)
 
@@ -81,9 +83,12 @@ module _ (bytes : List ℕ) where
   shape (Array a) ts j d rest e = made text.array _ j rest (sym (grammar.value_is d _) ∙ e)
   shape EndArray ts j d rest e = not_found (j, rest) (sym (grammar.value_is d _) ∙ e)
   shape (Key from count) ts j d rest e = not_found (j, rest) (sym (grammar.value_is d _) ∙ e)
-  shape (Text from count) ts j d rest e = alone (text.string (piece bytes from count)) j ts rest (sym
+  shape (Text from count) ts j d rest e = alone (text.string (piece bytes.line from count)) j ts rest (sym
       (grammar.value_is d _) ∙ e)
-  shape (Number from count) ts j d rest e = alone (text.number (piece bytes from count)) j ts rest (sym
+  shape (EscapedKey from count) ts j d rest e = not_found (j, rest) (sym (grammar.value_is d _) ∙ e)
+  shape (Escaped from count) ts j d rest e = alone (text.string (piece bytes.texts from count)) j ts rest (sym
+      (grammar.value_is d _) ∙ e)
+  shape (Number from count) ts j d rest e = alone (text.number (piece bytes.line from count)) j ts rest (sym
       (grammar.value_is d _) ∙ e)
   shape (Truth b) ts j d rest e = alone (text.boolean b) j ts rest (sym (grammar.value_is d _) ∙ e)
   shape Null ts j d rest e = alone text.null j ts rest (sym (grammar.value_is d _) ∙ e)
@@ -95,8 +100,10 @@ module _ (bytes : List ℕ) where
   Tells (Array a) v = (vs : json.Items) × (v ≡ json.array vs)
   Tells EndArray v = ⊥
   Tells (Key from count) v = ⊥
-  Tells (Text from count) v = v ≡ json.text (chars (piece bytes from count))
-  Tells (Number from count) v = v ≡ json.number (text_number (piece bytes from count))
+  Tells (Text from count) v = v ≡ json.text (chars (piece bytes.line from count))
+  Tells (EscapedKey from count) v = ⊥
+  Tells (Escaped from count) v = v ≡ json.text (chars (piece bytes.texts from count))
+  Tells (Number from count) v = v ≡ json.number (text_number (piece bytes.line from count))
   Tells (Truth b) v = v ≡ json.truth b
   Tells Null v = v ≡ json.null
 
@@ -114,6 +121,8 @@ module _ (bytes : List ℕ) where
       go EndArray f sh = sh
       go (Key from count) f sh = sh
       go (Text from count) f sh = value_is _ f ∙ ap tree_json sh.0
+      go (EscapedKey from count) f sh = sh
+      go (Escaped from count) f sh = value_is _ f ∙ ap tree_json sh.0
       go (Number from count) f sh = value_is _ f ∙ ap tree_json sh.0
       go (Truth b) f sh = value_is _ f ∙ ap tree_json sh.0
       go Null f sh = value_is _ f ∙ ap tree_json sh.0
@@ -124,17 +133,20 @@ module _ (bytes : List ℕ) where
       (λ l. is_flat l ≡ true) e h))
 
   pub other_node : (n : FlatNode) (v : Json) → ((a : ℕ) → n ≡ Object a → ⊥) → ((a : ℕ) → n ≡ Array a → ⊥)
-      → ((from count : ℕ) → n ≡ Text from count → ⊥) → ((from count : ℕ) → n ≡ Number from count → ⊥)
-      → ((b : common.Bool) → n ≡ Truth b → ⊥) → Tells n v → v ≡ json.null
-  other_node (Object a) v p q r s u t = absurd (p a refl)
-  other_node EndObject v p q r s u t = absurd t
-  other_node (Array a) v p q r s u t = absurd (q a refl)
-  other_node EndArray v p q r s u t = absurd t
-  other_node (Key from count) v p q r s u t = absurd t
-  other_node (Text from count) v p q r s u t = absurd (r from count refl)
-  other_node (Number from count) v p q r s u t = absurd (s from count refl)
-  other_node (Truth b) v p q r s u t = absurd (u b refl)
-  other_node Null v p q r s u t = t
+      → ((from count : ℕ) → n ≡ Text from count → ⊥) → ((from count : ℕ) → n ≡ Escaped from count → ⊥)
+      → ((from count : ℕ) → n ≡ Number from count → ⊥) → ((b : common.Bool) → n ≡ Truth b → ⊥) → Tells n v
+      → v ≡ json.null
+  other_node (Object a) v p q r w s u t = absurd (p a refl)
+  other_node EndObject v p q r w s u t = absurd t
+  other_node (Array a) v p q r w s u t = absurd (q a refl)
+  other_node EndArray v p q r w s u t = absurd t
+  other_node (Key from count) v p q r w s u t = absurd t
+  other_node (Text from count) v p q r w s u t = absurd (r from count refl)
+  other_node (EscapedKey from count) v p q r w s u t = absurd t
+  other_node (Escaped from count) v p q r w s u t = absurd (w from count refl)
+  other_node (Number from count) v p q r w s u t = absurd (s from count refl)
+  other_node (Truth b) v p q r w s u t = absurd (u b refl)
+  other_node Null v p q r w s u t = t
 
   pub no_array : (n : FlatNode) (v : Json) → ((a : ℕ) → n ≡ Array a → ⊥) → Tells n v → IsNoArray v
   no_array (Object a) v p t = subst IsNoArray (sym t.1) tt
@@ -143,6 +155,8 @@ module _ (bytes : List ℕ) where
   no_array EndArray v p t = absurd t
   no_array (Key from count) v p t = absurd t
   no_array (Text from count) v p t = subst IsNoArray (sym t) tt
+  no_array (EscapedKey from count) v p t = absurd t
+  no_array (Escaped from count) v p t = subst IsNoArray (sym t) tt
   no_array (Number from count) v p t = subst IsNoArray (sym t) tt
   no_array (Truth b) v p t = subst IsNoArray (sym t) tt
   no_array Null v p t = subst IsNoArray (sym t) tt
@@ -156,6 +170,8 @@ module _ (bytes : List ℕ) where
   one_token EndArray ts j d rest p q e = absurd (shape EndArray ts j d rest e)
   one_token (Key from count) ts j d rest p q e = absurd (shape (Key from count) ts j d rest e)
   one_token (Text from count) ts j d rest p q e = (shape (Text from count) ts j d rest e).1
+  one_token (EscapedKey from count) ts j d rest p q e = absurd (shape (EscapedKey from count) ts j d rest e)
+  one_token (Escaped from count) ts j d rest p q e = (shape (Escaped from count) ts j d rest e).1
   one_token (Number from count) ts j d rest p q e = (shape (Number from count) ts j d rest e).1
   one_token (Truth b) ts j d rest p q e = (shape (Truth b) ts j d rest e).1
   one_token Null ts j d rest p q e = (shape Null ts j d rest e).1
@@ -167,6 +183,8 @@ module _ (bytes : List ℕ) where
   no_object EndArray v p t = absurd t
   no_object (Key from count) v p t = absurd t
   no_object (Text from count) v p t = subst IsNoObject (sym t) tt
+  no_object (EscapedKey from count) v p t = absurd t
+  no_object (Escaped from count) v p t = subst IsNoObject (sym t) tt
   no_object (Number from count) v p t = subst IsNoObject (sym t) tt
   no_object (Truth b) v p t = subst IsNoObject (sym t) tt
   no_object Null v p t = subst IsNoObject (sym t) tt
@@ -179,30 +197,34 @@ module _ (bytes : List ℕ) where
   no_number EndArray v p t = absurd t
   no_number (Key from count) v p t = absurd t
   no_number (Text from count) v p t = sym (ap number_in t)
+  no_number (EscapedKey from count) v p t = absurd t
+  no_number (Escaped from count) v p t = sym (ap number_in t)
   no_number (Number from count) v p t = absurd (p from count refl)
   no_number (Truth b) v p t = sym (ap number_in t)
   no_number Null v p t = sym (ap number_in t)
 
-  pub no_text : (n : FlatNode) (v : Json) → ((from count : ℕ) → n ≡ Text from count → ⊥) → Tells n v
-      → None ≡ text_in v
-  no_text (Object a) v p t = sym (ap text_in t.1)
-  no_text EndObject v p t = absurd t
-  no_text (Array a) v p t = sym (ap text_in t.1)
-  no_text EndArray v p t = absurd t
-  no_text (Key from count) v p t = absurd t
-  no_text (Text from count) v p t = absurd (p from count refl)
-  no_text (Number from count) v p t = sym (ap text_in t)
-  no_text (Truth b) v p t = sym (ap text_in t)
-  no_text Null v p t = sym (ap text_in t)
+  pub no_text : (n : FlatNode) (v : Json) → ((from count : ℕ) → n ≡ Text from count → ⊥)
+      → ((from count : ℕ) → n ≡ Escaped from count → ⊥) → Tells n v → None ≡ text_in v
+  no_text (Object a) v p q t = sym (ap text_in t.1)
+  no_text EndObject v p q t = absurd t
+  no_text (Array a) v p q t = sym (ap text_in t.1)
+  no_text EndArray v p q t = absurd t
+  no_text (Key from count) v p q t = absurd t
+  no_text (Text from count) v p q t = absurd (p from count refl)
+  no_text (EscapedKey from count) v p q t = absurd t
+  no_text (Escaped from count) v p q t = absurd (q from count refl)
+  no_text (Number from count) v p q t = sym (ap text_in t)
+  no_text (Truth b) v p q t = sym (ap text_in t)
+  no_text Null v p q t = sym (ap text_in t)
 
   -- the text of a number is fit
   pub number_is_fit : (ts : List Token) (n : FlatNode) (from count : ℕ) → is_flat ts ≡ true
       → ts ≡ token_at bytes n ∷ drop 1 ts → n ≡ Number from count
-      → is_fit_number (piece bytes from count) ≡ true
+      → is_fit_number (piece bytes.line from count) ≡ true
   number_is_fit ts n from count h e is =
-      let all : ts ≡ Token.number (piece bytes from count) ∷ drop 1 ts = e
+      let all : ts ≡ Token.number (piece bytes.line from count) ∷ drop 1 ts = e
       ∙ ap (λ m. token_at bytes m ∷ drop 1 ts) is in
-      let f = flat_of (Token.number (piece bytes from count) ∷ drop 1 ts) (subst
+      let f = flat_of (Token.number (piece bytes.line from count) ∷ drop 1 ts) (subst
       (λ l. is_flat l ≡ true) all h) in
       let sh = shape (Number from count) (drop 1 ts) f.source max_depth f.rest (read_of_flat _ f) in
       subst (λ j. is_fit j ≡ true) sh.0 f.fit

@@ -4,4 +4,5 @@ pub mod Document
 pub mod Value
 pub mod Members
 pub mod Gathered
+pub mod Structured
 pub mod inner

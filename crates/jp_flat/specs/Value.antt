@@ -1,6 +1,8 @@
 -- The value that a place in a flat document stands for, and what is told of it.
 use Rattle.std.specs.Prelude.{◌≡◌, ℕ, ◌-◌, List, ◌∷◌, drop, length, Option, Some, None}
+use Rattle.std.specs.Prelude.{encode_utf8_all}
 use Rattle.std.specs.Str.{chars}
+use Rattle.json.specs.Print.{quoted}
 use Rattle.json.specs.Token.{Token, begin_array, begin_object}
 use Rattle.jp_doc.specs.Json as json
 use Rattle.jp_doc.specs.Json.{Json, null, truth, number, text, array, object, Items, Members, item_list}
@@ -32,6 +34,10 @@ text_in (truth b) = None
 text_in (number x) = None
 text_in (array vs) = None
 text_in (object ms) = None
+
+-- the value is a text, and these are its bytes between quotes, as they are printed
+abbrev pub IsQuotedText : List ℕ → Json → Type 0
+IsQuotedText s v = (t : json.Text) × (v ≡ text t) × (s ≡ quoted (encode_utf8_all t))
 
 -- the number that a value is, if it is one
 abbrev pub number_in : Json → Option numbers.Number

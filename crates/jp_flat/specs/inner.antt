@@ -9,3 +9,4 @@ pub mod Rows
 pub mod Held
 pub mod Placed
 pub mod Printed
+pub mod Without

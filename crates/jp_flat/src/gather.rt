@@ -32,9 +32,19 @@ pub(crate) fn order(left: &str, right: &str) -> Ordering
 }
 
 /// Whether two names are the same.
-fn is_same(left: &str, right: &str) -> bool
+// Most names differ in their length or in their first byte, which is told without a call.
+#[inline(always)]
+pub(crate) fn is_same(left: &str, right: &str) -> bool
     ensures { result ≡ text_eq (chars left.now) (chars right.now) }
 {
+    if left.len() != right.len() {
+        return false;
+    }
+    if let (Some(first), Some(second)) = (left.as_bytes().first(), right.as_bytes().first()) {
+        if *first != *second {
+            return false;
+        }
+    }
     left == right
 }
 

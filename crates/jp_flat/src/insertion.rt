@@ -16,7 +16,8 @@ use std::alloc::AllocError;
 use std::cmp::Ordering;
 
 /// Where a name belongs among names that rise.
-enum NamePlace {
+#[derive(Clone, Copy)]
+pub(crate) enum NamePlace {
     /// In front of the one with this index, or behind all.
     Before(usize),
     /// At this index, where it stands already.
@@ -24,7 +25,7 @@ enum NamePlace {
 }
 
 /// Where the name belongs. Names that come in order belong behind all, so it is looked for from there.
-fn place_of(list: &[FlatMember<'_>], name: &str) -> NamePlace
+pub(crate) fn place_of(list: &[FlatMember<'_>], name: &str) -> NamePlace
     requires { NamesRise (gathered list.now) }
     ensures { IsPlace result (chars name.now) list.now }
 {
@@ -42,7 +43,10 @@ fn place_of(list: &[FlatMember<'_>], name: &str) -> NamePlace
 /// Puts a member where its name belongs, and in the place of one that has it.
 ///
 /// `AllocError` if a growth was refused.
-fn put<'d>(member: FlatMember<'d>, list: &mut Vec<FlatMember<'d>>) -> Result<(), AllocError>
+pub(crate) fn put<'d>(
+    member: FlatMember<'d>,
+    list: &mut Vec<FlatMember<'d>>,
+) -> Result<(), AllocError>
     requires { NamesRise (gathered list.old.items) }
     ensures { OnOk result (gathered list.new.items ≡ put_member (chars member.entry.name.now)
         (flat_value member.entry.value) (gathered list.old.items)) }

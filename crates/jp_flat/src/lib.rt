@@ -13,6 +13,7 @@ mod line_reader;
 mod lines;
 mod long_arrays;
 mod nodes;
+mod structured;
 mod value;
 
 pub use document::FlatDocument;

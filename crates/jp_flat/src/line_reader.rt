@@ -6,6 +6,7 @@ ghost use Rattle.jp_doc.specs.Json.{Json};
 ghost use Rattle.jp_doc.specs.Reading.{reading};
 ghost use Rattle.jp_doc.specs.ReadingIn.{reading_in};
 ghost use Rattle.jp_flat.specs.Document.{document_answer, document_value};
+ghost use Rattle.jp_flat.specs.inner.Filled.{room_source};
 ghost use Rattle.jp_flat.specs.inner.FlatAnswers.{IsFlatAnswer};
 ghost use Rattle.jp_flat.specs.inner.Held.{IsReadAs};
 
@@ -101,7 +102,7 @@ fn fill_by_tree(
 ) -> Result<Result<(), DocFault>, AllocError>
     ensures { IfOk result (λ r. MatchResult r
         (λ _. (v : Json) × (reading line.now ≡ Ok v)
-        × IsReadAs (Ok v) room.new.texts.items room.new.nodes.items)
+        × IsReadAs (Ok v) (room_source room.new) room.new.flat.nodes.items)
         (λ f. (reading line.now ≡ Err f) × (f ≢ DocFault.Memory))) }
 {
     // So the tree does not stand beside what was read of the line.

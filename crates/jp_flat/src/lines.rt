@@ -7,7 +7,7 @@ ghost use Rattle.jp_doc.specs.Json.{Json};
 ghost use Rattle.jp_doc.specs.Reading.{max_line};
 ghost use Rattle.jp_flat.specs.Document.{document_value};
 ghost use Rattle.jp_flat.specs.inner.Decimals.{whole_fault};
-ghost use Rattle.jp_flat.specs.inner.Filled.{texts_at, filled_value};
+ghost use Rattle.jp_flat.specs.inner.Filled.{room_source, texts_at, filled_value};
 ghost use Rattle.jp_flat.specs.inner.FlatAnswers.{IsFlatAnswer, told, told_over};
 ghost use Rattle.jp_flat.specs.inner.Held.{IsHeld, IsReadAs};
 ghost use Rattle.jp_flat.specs.inner.Printed.{IsPrinted};
@@ -18,7 +18,7 @@ use crate::document::FlatDocument;
 use crate::nodes::{are_plain, are_readable, fault_in};
 use bumpalo::Bump;
 use jp_doc::{DocFault, Document, LONG_LINE, MAX_LINE};
-use jp_flat_nodes::{FlatNode, lay, read_decimal_line, read_line};
+use jp_flat_nodes::{FlatNodes, lay, read_decimal_line, read_line};
 use json::{Error, Node, Scratch, Tape};
 use std::alloc::{AllocError, Global};
 
@@ -28,10 +28,8 @@ pub(crate) struct Room {
     alloc: Global,
     /// Whether the last line had over 1,000,000 bytes.
     was_long: bool,
-    /// The nodes of a line.
-    nodes: Vec<FlatNode>,
-    /// Their texts, where those that the line writes are not plain.
-    texts: Vec<u8>,
+    /// The nodes of a line, and their texts that it writes with escapes.
+    flat: FlatNodes,
     /// What the kit's reader takes for such a line.
     scratch: Scratch,
     /// Where its nodes lie.
@@ -44,8 +42,7 @@ impl Room {
         Room {
             alloc,
             was_long: false,
-            nodes: Vec::new(alloc),
-            texts: Vec::new(alloc),
+            flat: FlatNodes::new(alloc),
             scratch: Scratch::new(alloc),
             arena: Bump::new(alloc),
         }
@@ -68,12 +65,12 @@ impl Room {
     }
 }
 
-/// Where the texts of a line's nodes stand.
+/// Where the texts of a line's nodes stand that are told by their place in the line.
 #[derive(Clone, Copy, Drop)]
 pub(crate) enum Texts {
-    /// In the line.
+    /// There.
     InLine,
-    /// In the room.
+    /// In the room, as the others.
     InRoom,
 }
 
@@ -118,9 +115,9 @@ fn lay_plain(text: &str, room: &mut Room) -> Result<FlatAnswer, AllocError>
                 return whole_answer(room.alloc, tape.nodes());
             }
             // Without their escapes, texts take no more than the line.
-            room.texts.clear();
-            room.texts.reserve(text.len())?;
-            lay(tape.nodes(), &mut room.texts, &mut room.nodes)?;
+            room.flat.texts.clear();
+            room.flat.texts.reserve(text.len())?;
+            lay(tape.nodes(), &mut room.flat)?;
             Ok(FlatAnswer::Filled(Texts::InRoom))
         }
         Err(Error::OutOfMemory) => Err(AllocError),
@@ -157,9 +154,9 @@ fn lay_decimal(text: &str, room: &mut Room) -> Result<FlatAnswer, AllocError>
                 Some(fault) => return Ok(FlatAnswer::Faulty(fault)),
                 None => {}
             }
-            room.texts.clear();
-            room.texts.reserve(text.len())?;
-            lay(tape.nodes(), &mut room.texts, &mut room.nodes)?;
+            room.flat.texts.clear();
+            room.flat.texts.reserve(text.len())?;
+            lay(tape.nodes(), &mut room.flat)?;
             Ok(FlatAnswer::Filled(Texts::InRoom))
         }
         Err(Error::OutOfMemory) => Err(AllocError),
@@ -173,7 +170,7 @@ fn lay_decimal(text: &str, room: &mut Room) -> Result<FlatAnswer, AllocError>
 /// `AllocError` if a growth was refused, or where that text is longer than any line.
 pub(crate) fn lay_document(document: &Document, room: &mut Room) -> Result<(), AllocError>
     ensures { OnOk result (IsReadAs (Ok (tree.document_value document.now))
-        room.new.texts.items room.new.nodes.items) }
+        (room_source room.new) room.new.flat.nodes.items) }
 {
     let text = document.root().to_string(room.alloc)?;
     if text.len() > MAX_LINE {
@@ -188,14 +185,14 @@ pub(crate) fn lay_document(document: &Document, room: &mut Room) -> Result<(), A
 fn lay_printed(text: &str, room: &mut Room) -> Result<(), AllocError>
     requires printed { (v : Json) × IsPrinted text.now v }
     ensures { (v : Json) → IsPrinted text.now v → OnOk result
-        (IsReadAs (Ok v) room.new.texts.items room.new.nodes.items) }
+        (IsReadAs (Ok v) (room_source room.new) room.new.flat.nodes.items) }
 {
     room.begin(text.len());
     match Tape::parse(text, &mut room.scratch, Vec::new(&room.arena)) {
         Ok(tape) => {
-            room.texts.clear();
-            room.texts.reserve(text.len())?;
-            lay(tape.nodes(), &mut room.texts, &mut room.nodes)
+            room.flat.texts.clear();
+            room.flat.texts.reserve(text.len())?;
+            lay(tape.nodes(), &mut room.flat)
         }
         Err(Error::OutOfMemory) => Err(AllocError),
         // The kit reads what it writes.
@@ -218,7 +215,7 @@ pub(crate) fn fill(line: &[u8], room: &mut Room) -> Result<FlatAnswer, AllocErro
     let Ok(text) = simdutf8::basic::from_utf8(line) else {
         return Ok(FlatAnswer::Faulty(DocFault::Unreadable));
     };
-    if read_line(line, &mut room.nodes) {
+    if read_line(line, &mut room.flat) {
         return Ok(FlatAnswer::Filled(Texts::InLine));
     }
     lay_plain(text, room)
@@ -237,7 +234,7 @@ pub(crate) fn fill_decimal(line: &[u8], room: &mut Room) -> Result<FlatAnswer, A
     let Ok(text) = simdutf8::basic::from_utf8(line) else {
         return Ok(FlatAnswer::Faulty(DocFault::Unreadable));
     };
-    if read_decimal_line(line, &mut room.nodes) {
+    if read_decimal_line(line, &mut room.flat) {
         return Ok(FlatAnswer::Filled(Texts::InLine));
     }
     lay_decimal(text, room)
@@ -247,12 +244,12 @@ pub(crate) fn fill_decimal(line: &[u8], room: &mut Room) -> Result<FlatAnswer, A
 // Each line is handed out so.
 #[inline(always)]
 pub(crate) fn lend<'a>(line: &'a [u8], room: &'a Room, texts: Texts) -> FlatDocument<'a>
-    requires few { length room.now.nodes.items ≤ 268435456 }
-    requires held { IsHeld (texts_at texts line.now room.now) room.now.nodes.items }
+    requires few { length room.now.flat.nodes.items ≤ 268435456 }
+    requires held { IsHeld (texts_at texts line.now room.now) room.now.flat.nodes.items }
     ensures { document_value result ≡ filled_value texts line.now room.now }
 {
     match texts {
-        Texts::InLine => FlatDocument::new(line, &room.nodes),
-        Texts::InRoom => FlatDocument::new(&room.texts, &room.nodes),
+        Texts::InLine => FlatDocument::new(line, &room.flat.texts, &room.flat.nodes),
+        Texts::InRoom => FlatDocument::new(&room.flat.texts, &room.flat.texts, &room.flat.nodes),
     }
 }

@@ -3,13 +3,14 @@
 ghost use Rattle.std.specs.Prelude.{◌≡◌, ℕ, ◌<◌, ◌≤◌, ◌∷◌, drop, true, false, MatchOption, IfSome};
 ghost use Rattle.json.specs.Token.{begin_array, begin_object};
 ghost use Rattle.jp_doc.specs.Reading.{max_line, has_long_array};
-ghost use Rattle.jp_flat.specs.Document.{document_tokens};
-ghost use Rattle.jp_flat.specs.inner.Held.{HasPiece};
+ghost use Rattle.jp_flat.specs.Document.{document_source, document_tokens};
+ghost use Rattle.jp_flat.specs.inner.Held.{HasPiece, IsNamed};
 ghost use Rattle.jp_flat.specs.inner.Plain.{is_fit_number, is_flat};
 ghost use Rattle.jp_flat_nodes.specs.Nodes.{token_at};
 
 use crate::digits::read_number;
 use crate::document::FlatDocument;
+use crate::gather::is_same;
 use jp_flat_nodes::FlatNode;
 use jp_number::Number;
 
@@ -44,6 +45,7 @@ pub struct FlatMember<'d> {
     pub name: &'d str,
     /// Its value.
     pub value: FlatValue<'d>,
+    ghost named: { ∥ IsNamed (document_tokens value.document.now) value.at name.now ∥₁ },
 }
 
 /// A number as it stands in the line.
@@ -95,8 +97,9 @@ impl<'d> FlatValue<'d> {
     ghost use Rattle.std.specs.Str.{chars};
     ghost use Rattle.jp_doc.specs.DocumentValue.{whole_in};
     ghost use Rattle.jp_doc.specs.Location.{member_of, item_of};
+    ghost use Rattle.jp_flat.specs.Structured.{is_structured};
     ghost use Rattle.jp_flat.specs.Value.{flat_value, tokens_of, items_value, members_value, text_in};
-    ghost use Rattle.jp_flat.specs.Value.{number_in, item_count, IsKind, IsNoArray, IsNoObject};
+    ghost use Rattle.jp_flat.specs.Value.{IsQuotedText, number_in, item_count, IsKind, IsNoArray, IsNoObject};
     ghost use Rattle.jp_number.specs.View.{number_of};
 
     /// The whole value of a document.
@@ -110,8 +113,8 @@ impl<'d> FlatValue<'d> {
     #[inline(always)]
     fn node(self) -> FlatNode
         ensures token { tokens_of self.entry
-            ≡ token_at self.entry.document.now.text.now result ∷ drop 1 (tokens_of self.entry) }
-        ensures piece { HasPiece self.entry.document.now.text.now result }
+            ≡ token_at (document_source self.entry.document.now) result ∷ drop 1 (tokens_of self.entry) }
+        ensures piece { HasPiece (document_source self.entry.document.now) result }
     {
         self.document.node(self.at)
     }
@@ -130,6 +133,9 @@ impl<'d> FlatValue<'d> {
                 at: self.at + 1,
             }),
             FlatNode::Text(from, count) => FlatKind::Text(self.document.piece(from, count)),
+            FlatNode::Escaped(from, count) => {
+                FlatKind::Text(self.document.unescaped(from, count))
+            }
             FlatNode::Number(from, count) => FlatKind::Number(FlatNumber {
                 digits: self.document.piece(from, count),
             }),
@@ -144,6 +150,20 @@ impl<'d> FlatValue<'d> {
     {
         match self.node() {
             FlatNode::Text(from, count) => Some(self.document.piece(from, count)),
+            FlatNode::Escaped(from, count) => Some(self.document.unescaped(from, count)),
+            _ => None,
+        }
+    }
+
+    /// The text between its quotes, as it is printed (RFC 8259, 7), where the value is one that stands so in the
+    /// line. `None` says nothing.
+    // Each text that is written is asked for so.
+    #[inline(always)]
+    pub fn quoted(self) -> Option<&'d [u8]>
+        ensures { IfSome result (λ s. IsQuotedText s.now (flat_value self.entry)) }
+    {
+        match self.node() {
+            FlatNode::Text(from, count) => Some(self.document.quoted(from, count)),
             _ => None,
         }
     }
@@ -235,6 +255,40 @@ impl<'d> FlatValue<'d> {
             None => None,
         }
     }
+
+    /// Whether the value is an array or an object.
+    // A descent asks it of each member that it passes.
+    #[inline(always)]
+    pub fn is_structured(self) -> bool
+        ensures { result ≡ is_structured (flat_value self.entry) }
+    {
+        match self.node() {
+            FlatNode::Object(_) => true,
+            FlatNode::Array(_) => true,
+            _ => false,
+        }
+    }
+}
+
+impl<'d> FlatMember<'d> {
+    ghost use Rattle.std.specs.Prelude.{encode_utf8_all};
+    ghost use Rattle.std.specs.Str.{chars};
+    ghost use Rattle.json.specs.Print.{token_text};
+    ghost use Rattle.json.specs.Token.{key};
+
+    /// The name between its quotes and the colon, as they are printed (RFC 8259, 4 and 7), where they stand so in
+    /// the line. `None` says nothing.
+    // Each name that is written is asked for so.
+    #[inline(always)]
+    pub fn quoted_name(self) -> Option<&'d [u8]>
+        ensures { IfSome result (λ s. s.now ≡ token_text (key (encode_utf8_all (chars self.entry.name.now)))) }
+    {
+        let value = self.value;
+        match value.document.node(value.at - 1) {
+            FlatNode::Key(from, count) => Some(value.document.quoted_name(from, count)),
+            _ => None,
+        }
+    }
 }
 
 impl<'d> FlatItems<'d> {
@@ -311,9 +365,8 @@ impl<'d> FlatMembers<'d> {
         ensures fewer { IfSome result (λ p. members_left p.1 < members_left self.entry) }
     {
         let (document, at) = (self.document, self.at);
-        match document.node(at) {
-            FlatNode::Key(from, count) => {
-                let name = document.piece(from, count);
+        match document.name(document.node(at)) {
+            Some(name) => {
                 let end = document.after(at + 1);
                 let value = FlatValue {
                     document,
@@ -324,7 +377,7 @@ impl<'d> FlatMembers<'d> {
                     FlatMembers { document, at: end },
                 ))
             }
-            _ => None,
+            None => None,
         }
     }
 
@@ -335,7 +388,7 @@ impl<'d> FlatMembers<'d> {
         let mut found = None;
         let mut left = self;
         while let Some((member, others)) = left.split_first() {
-            if member.name == name {
+            if is_same(name, member.name) {
                 found = Some(member.value);
             }
             left = others;

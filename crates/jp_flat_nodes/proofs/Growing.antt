@@ -11,7 +11,7 @@ use Rattle.json.specs.Json.{Json}
 use Rattle.json.specs.Token.{Token}
 use Rattle.json.specs.Tree.{json_tokens}
 use Rattle.json.proofs.Found.{Some_inj}
-use Rattle.jp_flat_nodes.specs.Nodes.{tokens_at, token_at, link_of, IsWithin, AreWithin}
+use Rattle.jp_flat_nodes.specs.Nodes.{Source, tokens_at, token_at, link_of, IsWithin, AreWithin}
 use Rattle.jp_flat_nodes.specs.inner.Reads.{Spans, LinkedFrom, AreKept, Grows}
 use Rattle.jp_flat_nodes.specs.declared.node.FlatNode.{FlatNode}
 use Rattle.jp_flat_nodes.specs.declared.node.FlatNode.TheVariants.{Null}
@@ -23,26 +23,26 @@ pub one_longer : (old new : List FlatNode) (n : FlatNode) → new ≡ old ++ (n 
     → length new ≡ length old + 1
 one_longer old new n e = ap length e ∙ length-append old (n ∷ [])
 
-pub grown_by : (line : List ℕ) (old new : List FlatNode) (ts : List Token) → Grows line old new ts
+pub grown_by : (src : Source) (old new : List FlatNode) (ts : List Token) → Grows src old new ts
     → length new ≡ length old + length ts
-grown_by line old new ts g =
-    sym (length-map new (token_at line)) ∙ ap length g.tokens ∙ length-append (tokens_at line old) ts
-    ∙ ap (λ n. n + length ts) (length-map old (token_at line))
+grown_by src old new ts g =
+    sym (length-map new (token_at src)) ∙ ap length g.tokens ∙ length-append (tokens_at src old) ts
+    ∙ ap (λ n. n + length ts) (length-map old (token_at src))
 
 -- ---- nothing, and one node more
 
-pub nothing_more : (line : List ℕ) (old : List FlatNode) → Grows line old old []
-nothing_more line old = record {
-  tokens = sym (append-nil (tokens_at line old));
+pub nothing_more : (src : Source) (old : List FlatNode) → Grows src old old []
+nothing_more src old = record {
+  tokens = sym (append-nil (tokens_at src old));
   kept = λ i lt. refl;
   linked = λ i end le e. no_link end _ (sym (ap link_of (get_or_past old i Null le)) ∙ e);
   within = λ h. h;
 }
 
-pub within_more : (size : ℕ) (ns : List FlatNode) (n : FlatNode) → AreWithin size ns → IsWithin size n
-    → AreWithin size (ns ++ (n ∷ []))
-within_more size [] n h k = (k, tt)
-within_more size (m ∷ ns) n h k = (h.0, within_more size ns n h.1 k)
+pub within_more : (src : Source) (ns : List FlatNode) (n : FlatNode) → AreWithin src ns → IsWithin src n
+    → AreWithin src (ns ++ (n ∷ []))
+within_more src [] n h k = (k, tt)
+within_more src (m ∷ ns) n h k = (h.0, within_more src ns n h.1 k)
 
 push_kept : (old new : List FlatNode) (n : FlatNode) → new ≡ old ++ (n ∷ []) → AreKept old new
 push_kept old new n e i lt = ap (λ l. get_or l i Null) e ∙ get_or-append old (n ∷ []) Null i lt
@@ -61,14 +61,14 @@ at_end old n i le none = go (cases_eq i (length old))
     go (inr ne) =
         ap link_of (get_or_past (old ++ (n ∷ [])) i Null (omega (arith, length-append old (n ∷ []))))
 
-pub one_more : (line : List ℕ) (old new : List FlatNode) (n : FlatNode) → link_of n ≡ None
-    → IsWithin (length line) n → new ≡ old ++ (n ∷ []) → Grows line old new (token_at line n ∷ [])
-one_more line old new n none within made = record {
-  tokens = ap (tokens_at line) made ∙ map-append (token_at line) old (n ∷ []);
+pub one_more : (src : Source) (old new : List FlatNode) (n : FlatNode) → link_of n ≡ None
+    → IsWithin src n → new ≡ old ++ (n ∷ []) → Grows src old new (token_at src n ∷ [])
+one_more src old new n none within made = record {
+  tokens = ap (tokens_at src) made ∙ map-append (token_at src) old (n ∷ []);
   kept = push_kept old new n made;
   linked = λ i end le e. no_link end _ (sym (at_end old n i le none)
       ∙ ap (λ l. link_of (get_or l i Null)) (sym made) ∙ e);
-  within = λ h. subst (AreWithin (length line)) (sym made) (within_more (length line) old n h within);
+  within = λ h. subst (AreWithin src) (sym made) (within_more src old n h within);
 }
 
 -- ---- one part behind another
@@ -84,35 +84,35 @@ spans_more all more from end s = record {
   ends = s.ends;
 }
 
-links_more : (line : List ℕ) (k : ℕ) (now new : List FlatNode) (more : List Token) → LinkedFrom line k now
-    → Grows line now new more → LinkedFrom line k new
-links_more line k now new more h g i end le e = go (cases_lt i (length now))
+links_more : (src : Source) (k : ℕ) (now new : List FlatNode) (more : List Token) → LinkedFrom src k now
+    → Grows src now new more → LinkedFrom src k new
+links_more src k now new more h g i end le e = go (cases_lt i (length now))
   where
-    go : (i < length now) ⊎ (length now ≤ i) → Spans (tokens_at line new) i end
+    go : (i < length now) ⊎ (length now ≤ i) → Spans (tokens_at src new) i end
     go (inl lt) =
         subst (λ l. Spans l i end) (sym g.tokens)
-        (spans_more (tokens_at line now) more i end (h i end le (ap link_of (sym (g.kept i lt)) ∙ e)))
+        (spans_more (tokens_at src now) more i end (h i end le (ap link_of (sym (g.kept i lt)) ∙ e)))
     go (inr ge) = g.linked i end ge e
 
-pub then_more : (line : List ℕ) (old now new : List FlatNode) (ts us : List Token) → Grows line old now ts
-    → Grows line now new us → Grows line old new (ts ++ us)
-then_more line old now new ts us g h = record {
-  tokens = h.tokens ∙ ap (λ l. l ++ us) g.tokens ∙ append_assoc (tokens_at line old) ts us;
-  kept = λ i lt. h.kept i (omega (arith, grown_by line old now ts g)) ∙ g.kept i lt;
-  linked = links_more line (length old) now new us g.linked h;
+pub then_more : (src : Source) (old now new : List FlatNode) (ts us : List Token) → Grows src old now ts
+    → Grows src now new us → Grows src old new (ts ++ us)
+then_more src old now new ts us g h = record {
+  tokens = h.tokens ∙ ap (λ l. l ++ us) g.tokens ∙ append_assoc (tokens_at src old) ts us;
+  kept = λ i lt. h.kept i (omega (arith, grown_by src old now ts g)) ∙ g.kept i lt;
+  linked = links_more src (length old) now new us g.linked h;
   within = λ w. h.within (g.within w);
 }
 
 -- ---- an array or object is closed
 
-within_set : (size : ℕ) (ns : List FlatNode) (i : ℕ) (n : FlatNode) → AreWithin size ns → IsWithin size n
-    → AreWithin size (set ns i n)
-within_set size [] i n h k = h
-within_set size (m ∷ ns) zero n h k = (k, h.1)
-within_set size (m ∷ ns) (suc i) n h k = (h.0, within_set size ns i n h.1 k)
+within_set : (src : Source) (ns : List FlatNode) (i : ℕ) (n : FlatNode) → AreWithin src ns → IsWithin src n
+    → AreWithin src (set ns i n)
+within_set src [] i n h k = h
+within_set src (m ∷ ns) zero n h k = (k, h.1)
+within_set src (m ∷ ns) (suc i) n h k = (h.0, within_set src ns i n h.1 k)
 
 -- what is known where one is closed: `first` began it, and has become `linked`
-pub record Closing (line : List ℕ) (old opened mid final : List FlatNode) (place : ℕ)
+pub record Closing (src : Source) (old opened mid final : List FlatNode) (place : ℕ)
     (value : Json) : Type 0 where
   pub first : FlatNode
   pub linked : FlatNode
@@ -120,21 +120,21 @@ pub record Closing (line : List ℕ) (old opened mid final : List FlatNode) (pla
   pub inner : List Token
   pub begun : opened ≡ old ++ (first ∷ [])
   pub at : place ≡ length old
-  pub grows : Grows line opened mid inner
+  pub grows : Grows src opened mid inner
   pub made : final ≡ set (mid ++ (last ∷ [])) place linked
-  pub same : token_at line first ≡ token_at line linked
-  pub whole : json_tokens value ≡ token_at line linked ∷ (inner ++ (token_at line last ∷ []))
+  pub same : token_at src first ≡ token_at src linked
+  pub whole : json_tokens value ≡ token_at src linked ∷ (inner ++ (token_at src last ∷ []))
   pub link : link_of linked ≡ Some (length mid + 1)
   pub none : link_of last ≡ None
-  pub within : IsWithin (length line) first × IsWithin (length line) linked × IsWithin (length line) last
+  pub within : IsWithin src first × IsWithin src linked × IsWithin src last
 
-module _ (line : List ℕ) (old opened mid final : List FlatNode) (place : ℕ) (value : Json)
-    (c : Closing line old opened mid final place value) where
+module _ (src : Source) (old opened mid final : List FlatNode) (place : ℕ) (value : Json)
+    (c : Closing src old opened mid final place value) where
   opened_longer : length opened ≡ length old + 1
   opened_longer = one_longer old opened c.first c.begun
 
   mid_longer : length opened ≤ length mid
-  mid_longer = omega (arith, grown_by line opened mid c.inner c.grows)
+  mid_longer = omega (arith, grown_by src opened mid c.inner c.grows)
 
   ended_longer : length (mid ++ (c.last ∷ [])) ≡ length mid + 1
   ended_longer = length-append mid (c.last ∷ [])
@@ -146,56 +146,56 @@ module _ (line : List ℕ) (old opened mid final : List FlatNode) (place : ℕ) 
       ∙ get_or-append mid (c.last ∷ []) Null i (omega (arith, opened_longer, mid_longer))
       ∙ c.grows.kept i (omega (arith, opened_longer)) ∙ push_kept old opened c.first c.begun i lt
 
-  mid_tokens : tokens_at line mid ≡ tokens_at line old ++ (token_at line c.linked ∷ c.inner)
+  mid_tokens : tokens_at src mid ≡ tokens_at src old ++ (token_at src c.linked ∷ c.inner)
   mid_tokens =
       c.grows.tokens
-      ∙ ap (λ l. l ++ c.inner) (ap (tokens_at line) c.begun ∙ map-append (token_at line) old (c.first ∷ []))
-      ∙ append_assoc (tokens_at line old) (token_at line c.first ∷ []) c.inner
-      ∙ ap (λ t. tokens_at line old ++ (t ∷ c.inner)) c.same
+      ∙ ap (λ l. l ++ c.inner) (ap (tokens_at src) c.begun ∙ map-append (token_at src) old (c.first ∷ []))
+      ∙ append_assoc (tokens_at src old) (token_at src c.first ∷ []) c.inner
+      ∙ ap (λ t. tokens_at src old ++ (t ∷ c.inner)) c.same
 
-  final_tokens : tokens_at line final ≡ tokens_at line mid ++ (token_at line c.last ∷ [])
+  final_tokens : tokens_at src final ≡ tokens_at src mid ++ (token_at src c.last ∷ [])
   final_tokens =
-      let t = token_at line c.linked in
-      let e = token_at line c.last in
-      let ts = tokens_at line old in
-      let whole : tokens_at line (mid ++ (c.last ∷ [])) ≡ ts ++ (t ∷ (c.inner ++ (e ∷ []))) =
-      map-append (token_at line) mid (c.last ∷ []) ∙ ap (λ l. l ++ (e ∷ [])) mid_tokens
+      let t = token_at src c.linked in
+      let e = token_at src c.last in
+      let ts = tokens_at src old in
+      let whole : tokens_at src (mid ++ (c.last ∷ [])) ≡ ts ++ (t ∷ (c.inner ++ (e ∷ []))) =
+      map-append (token_at src) mid (c.last ∷ []) ∙ ap (λ l. l ++ (e ∷ [])) mid_tokens
       ∙ append_assoc ts (t ∷ c.inner) (e ∷ []) in
-      let here : place ≡ length ts = c.at ∙ sym (length-map old (token_at line)) in
-      ap (tokens_at line) c.made ∙ map-set (token_at line) (mid ++ (c.last ∷ [])) place c.linked
+      let here : place ≡ length ts = c.at ∙ sym (length-map old (token_at src)) in
+      ap (tokens_at src) c.made ∙ map-set (token_at src) (mid ++ (c.last ∷ [])) place c.linked
       ∙ ap₂ (λ l i. set l i t) whole here ∙ set-append_seam ts t (c.inner ++ (e ∷ [])) t
       ∙ sym (append_assoc ts (t ∷ c.inner) (e ∷ [])) ∙ ap (λ l. l ++ (e ∷ [])) (sym mid_tokens)
 
-  all_tokens : tokens_at line final ≡ tokens_at line old ++ json_tokens value
+  all_tokens : tokens_at src final ≡ tokens_at src old ++ json_tokens value
   all_tokens =
-      final_tokens ∙ ap (λ l. l ++ (token_at line c.last ∷ [])) mid_tokens
-      ∙ append_assoc (tokens_at line old) (token_at line c.linked ∷ c.inner) (token_at line c.last ∷ [])
-      ∙ ap (λ l. tokens_at line old ++ l) (sym c.whole)
+      final_tokens ∙ ap (λ l. l ++ (token_at src c.last ∷ [])) mid_tokens
+      ∙ append_assoc (tokens_at src old) (token_at src c.linked ∷ c.inner) (token_at src c.last ∷ [])
+      ∙ ap (λ l. tokens_at src old ++ l) (sym c.whole)
 
   linked_first : (i end : ℕ) → i ≡ length old → link_of (get_or final i Null) ≡ Some end
-      → Spans (tokens_at line final) i end
+      → Spans (tokens_at src final) i end
   linked_first i end same is =
       let node : get_or final i Null ≡ c.linked = ap (λ l. get_or l i Null) c.made
       ∙ ap (λ k. get_or (set (mid ++ (c.last ∷ [])) k c.linked) i Null) (c.at ∙ sym same)
       ∙ get_or-set_same (mid ++ (c.last ∷ [])) i c.linked Null
       (omega (arith, same, opened_longer, mid_longer, ended_longer)) in
       let found : end ≡ length mid + 1 = Some_inj end (length mid + 1) (sym is ∙ ap link_of node ∙ c.link) in
-      let long : length (tokens_at line final) ≡ length mid + 1 = length-map final (token_at line)
+      let long : length (tokens_at src final) ≡ length mid + 1 = length-map final (token_at src)
       ∙ ap length c.made ∙ length-set (mid ++ (c.last ∷ [])) place c.linked ∙ ended_longer in
-      let parts : length (tokens_at line final) ≡ length old + length (json_tokens value) =
-      ap length all_tokens ∙ length-append (tokens_at line old) (json_tokens value)
-      ∙ ap (λ n. n + length (json_tokens value)) (length-map old (token_at line)) in
+      let parts : length (tokens_at src final) ≡ length old + length (json_tokens value) =
+      ap length all_tokens ∙ length-append (tokens_at src old) (json_tokens value)
+      ∙ ap (λ n. n + length (json_tokens value)) (length-map old (token_at src)) in
       record {
-        front = tokens_at line old;
+        front = tokens_at src old;
         value = value;
         back = [];
-        whole = all_tokens ∙ ap (λ l. tokens_at line old ++ l) (sym (append-nil (json_tokens value)));
-        begins = length-map old (token_at line) ∙ sym same;
+        whole = all_tokens ∙ ap (λ l. tokens_at src old ++ l) (sym (append-nil (json_tokens value)));
+        begins = length-map old (token_at src) ∙ sym same;
         ends = omega (arith, found, long, parts, same);
       }
 
   linked_inside : (i end : ℕ) → length old ≤ i → (i ≡ length old → ⊥)
-      → link_of (get_or final i Null) ≡ Some end → Spans (tokens_at line final) i end
+      → link_of (get_or final i Null) ≡ Some end → Spans (tokens_at src final) i end
   linked_inside i end le other is = go (cases_lt i (length mid))
     where
       node : get_or final i Null ≡ get_or (mid ++ (c.last ∷ [])) i Null
@@ -203,28 +203,28 @@ module _ (line : List ℕ) (old opened mid final : List FlatNode) (place : ℕ) 
           ap (λ l. get_or l i Null) c.made
           ∙ get_or-set_other (mid ++ (c.last ∷ [])) place i c.linked Null (λ h. other (h ∙ c.at))
 
-      go : (i < length mid) ⊎ (length mid ≤ i) → Spans (tokens_at line final) i end
+      go : (i < length mid) ⊎ (length mid ≤ i) → Spans (tokens_at src final) i end
       go (inl lt) =
           subst (λ l. Spans l i end) (sym final_tokens)
-          (spans_more (tokens_at line mid) (token_at line c.last ∷ []) i end
+          (spans_more (tokens_at src mid) (token_at src c.last ∷ []) i end
           (c.grows.linked i end (omega (arith, opened_longer))
           (ap link_of (sym (node ∙ get_or-append mid (c.last ∷ []) Null i lt)) ∙ is)))
       go (inr ge) = no_link end _ (sym (at_end mid c.last i ge c.none) ∙ ap link_of (sym node) ∙ is)
 
-  links : LinkedFrom line (length old) final
+  links : LinkedFrom src (length old) final
   links i end le is = go (cases_eq i (length old))
     where
-      go : (i ≡ length old) ⊎ (i ≡ length old → ⊥) → Spans (tokens_at line final) i end
+      go : (i ≡ length old) ⊎ (i ≡ length old → ⊥) → Spans (tokens_at src final) i end
       go (inl same) = linked_first i end same is
       go (inr other) = linked_inside i end le other is
 
-  all_within : AreWithin (length line) old → AreWithin (length line) final
+  all_within : AreWithin src old → AreWithin src final
   all_within h =
-      subst (AreWithin (length line)) (sym c.made)
-      (within_set (length line) (mid ++ (c.last ∷ [])) place c.linked
-      (within_more (length line) mid c.last
-      (c.grows.within (subst (AreWithin (length line)) (sym c.begun)
-      (within_more (length line) old c.first h c.within.0))) c.within.2) c.within.1)
+      subst (AreWithin src) (sym c.made)
+      (within_set src (mid ++ (c.last ∷ [])) place c.linked
+      (within_more src mid c.last
+      (c.grows.within (subst (AreWithin src) (sym c.begun)
+      (within_more src old c.first h c.within.0))) c.within.2) c.within.1)
 
-  pub closes : Grows line old final (json_tokens value)
+  pub closes : Grows src old final (json_tokens value)
   closes = record { tokens = all_tokens; kept = kept; linked = links; within = all_within }

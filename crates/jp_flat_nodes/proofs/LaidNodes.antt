@@ -1,20 +1,24 @@
 -- What stands among the texts stands there still when more is put behind, and links are those of the kit.
-use Rattle.std.proofs.Common.{◌≡◌, ℕ, ◌+◌, ◌<◌, ◌≤◌, List, [], ◌∷◌, ◌++◌, length, map, take, drop, get_or}
+use Rattle.std.proofs.Common.{◌≡◌, ℕ, ◌+◌, ◌-◌, ◌<◌, ◌≤◌, List, [], ◌∷◌, ◌++◌, length, map, take, drop}
+use Rattle.std.proofs.Common.{get_or}
 use Rattle.std.proofs.Common.{Some, None, inl, inr, ◌⊎◌, refl, sym, ap, ap₂, ◌∙◌, subst, arith}
 use Rattle.std.proofs.Common.{length-append, length-drop}
 use Rattle.std.proofs.lemmas.Bool.{cases_lt}
 use Rattle.std.proofs.lemmas.List.{take-append-le, drop-append-le, map-append, get_or_past, get_or-map}
 use Rattle.std.proofs.lemmas.List.{length-map}
+use Rattle.std.proofs.Math.ListN.{get_or-append}
+use Rattle.json.specs.Print.{quoted}
 use Rattle.json.specs.Tape.{node_token, Linked, LinkAt, Passes}
 use Rattle.json.specs.Token as token
 use Rattle.json.specs.Token.{Token}
 use Rattle.json.specs.declared.tape.Node as tape
 use Rattle.json.specs.declared.tape.Node.TheVariants as taped
 use Rattle.json.proofs.Found.{Some_inj}
-use Rattle.jp_flat_nodes.specs.Nodes.{piece, token_at, tokens_at, link_of, AreLinked, IsWithin, AreWithin}
+use Rattle.jp_flat_nodes.specs.Nodes.{Source, source, piece, token_at, tokens_at, link_of, AreLinked}
+use Rattle.jp_flat_nodes.specs.Nodes.{IsPlain, IsWithin, AreWithin}
 use Rattle.jp_flat_nodes.specs.declared.node.FlatNode.{FlatNode}
 use Rattle.jp_flat_nodes.specs.declared.node.FlatNode.TheVariants.{Object, EndObject, Array, EndArray, Key}
-use Rattle.jp_flat_nodes.specs.declared.node.FlatNode.TheVariants.{Text}
+use Rattle.jp_flat_nodes.specs.declared.node.FlatNode.TheVariants.{Text, EscapedKey, Escaped}
 use Rattle.jp_flat_nodes.specs.declared.node.FlatNode.TheVariants.{Number, Truth, Null}
 use Rattle.jp_flat_nodes.specs.inner.Laid.{link_in, EndsWithin, IsLaid}
 use Rattle.jp_flat_nodes.proofs.Growing.{within_more}
@@ -25,50 +29,81 @@ piece_stays text more from count h =
     ap (take count) (drop-append-le from text more (omega arith))
     ∙ take-append-le count (drop from text) more (omega (arith, length-drop from text))
 
-token_stays : (text more : List ℕ) (n : FlatNode) → IsWithin (length text) n
-    → token_at (text ++ more) n ≡ token_at text n
+-- what is laid, in the texts alone
+abbrev laid_in : List ℕ → Source
+laid_in texts = source texts texts
+
+plain_stays : (text more : List ℕ) (from count : ℕ) → IsPlain text from count
+    → IsPlain (text ++ more) from count
+plain_stays text more from count h = record {
+  behind = h.behind;
+  before = omega (arith, h.before, length-append text more);
+  is = piece_stays text more (from - 1) (count + 2) (omega (arith, h.behind, h.before)) ∙ h.is
+      ∙ ap quoted (sym (piece_stays text more from count (omega (arith, h.before))));
+}
+
+token_stays : (text more : List ℕ) (n : FlatNode) → IsWithin (laid_in text) n
+    → token_at (laid_in (text ++ more)) n ≡ token_at (laid_in text) n
 token_stays text more (Object end) h = refl
 token_stays text more EndObject h = refl
 token_stays text more (Array end) h = refl
 token_stays text more EndArray h = refl
-token_stays text more (Key from count) h = ap token.key (piece_stays text more from count h)
-token_stays text more (Text from count) h = ap token.string (piece_stays text more from count h)
+token_stays text more (Key from count) h =
+    ap token.key (piece_stays text more from count (omega (arith, h.0.before)))
+token_stays text more (Text from count) h =
+    ap token.string (piece_stays text more from count (omega (arith, h.before)))
+token_stays text more (EscapedKey from count) h = ap token.key (piece_stays text more from count h)
+token_stays text more (Escaped from count) h = ap token.string (piece_stays text more from count h)
 token_stays text more (Number from count) h = ap token.number (piece_stays text more from count h)
 token_stays text more (Truth b) h = refl
 token_stays text more Null h = refl
 
-tokens_stay : (text more : List ℕ) (ns : List FlatNode) → AreWithin (length text) ns
-    → tokens_at (text ++ more) ns ≡ tokens_at text ns
+tokens_stay : (text more : List ℕ) (ns : List FlatNode) → AreWithin (laid_in text) ns
+    → tokens_at (laid_in (text ++ more)) ns ≡ tokens_at (laid_in text) ns
 tokens_stay text more [] h = refl
 tokens_stay text more (n ∷ ns) h =
     ap₂ (λ t ts. t ∷ ts) (token_stays text more n h.0) (tokens_stay text more ns h.1)
 
-wider : (n m : ℕ) (x : FlatNode) → n ≤ m → IsWithin n x → IsWithin m x
-wider n m (Object end) le h = tt
-wider n m EndObject le h = tt
-wider n m (Array end) le h = tt
-wider n m EndArray le h = tt
-wider n m (Key from count) le h = omega (arith, h)
-wider n m (Text from count) le h = omega (arith, h)
-wider n m (Number from count) le h = omega (arith, h)
-wider n m (Truth b) le h = tt
-wider n m Null le h = tt
+colon_inside : (text : List ℕ) (i : ℕ) → get_or text i 0 ≡ 58 → i < length text
+colon_inside text i e = go (cases_lt i (length text))
+  where
+    go : (i < length text) ⊎ (length text ≤ i) → i < length text
+    go (inl lt) = lt
+    go (inr ge) = absurd (omega (arith, e, get_or_past text i 0 ge))
 
-all_wider : (n m : ℕ) (xs : List FlatNode) → n ≤ m → AreWithin n xs → AreWithin m xs
-all_wider n m [] le h = tt
-all_wider n m (x ∷ xs) le h = (wider n m x le h.0, all_wider n m xs le h.1)
+stays_within : (text more : List ℕ) (n : FlatNode) → IsWithin (laid_in text) n
+    → IsWithin (laid_in (text ++ more)) n
+stays_within text more (Object end) h = tt
+stays_within text more EndObject h = tt
+stays_within text more (Array end) h = tt
+stays_within text more EndArray h = tt
+stays_within text more (Key from count) h = (
+  plain_stays text more from count h.0,
+  get_or-append text more 0 (from + count + 1) (colon_inside text (from + count + 1) h.1) ∙ h.1,
+)
+stays_within text more (Text from count) h = plain_stays text more from count h
+stays_within text more (EscapedKey from count) h = omega (arith, h, length-append text more)
+stays_within text more (Escaped from count) h = omega (arith, h, length-append text more)
+stays_within text more (Number from count) h = omega (arith, h, length-append text more)
+stays_within text more (Truth b) h = tt
+stays_within text more Null h = tt
+
+all_stay_within : (text more : List ℕ) (ns : List FlatNode) → AreWithin (laid_in text) ns
+    → AreWithin (laid_in (text ++ more)) ns
+all_stay_within text more [] h = tt
+all_stay_within text more (n ∷ ns) h = (stays_within text more n h.0, all_stay_within text more ns h.1)
 
 -- so many of the kit's nodes are laid
 pub record LaidSoFar (texts : List ℕ) (done : List tape.Node) (nodes : List FlatNode) : Type 0 where
-  pub tokens : tokens_at texts nodes ≡ map node_token done
+  pub tokens : tokens_at (source texts texts) nodes ≡ map node_token done
   pub links : map link_of nodes ≡ map link_in done
-  pub within : AreWithin (length texts) nodes
+  pub within : AreWithin (source texts texts) nodes
 
 pub none_laid : (texts : List ℕ) (nodes : List FlatNode) → nodes ≡ [] → LaidSoFar texts [] nodes
 none_laid texts nodes e = record {
-  tokens = ap (tokens_at texts) e;
+  tokens = ap (tokens_at (laid_in texts)) e;
   links = ap (map link_of) e;
-  within = subst (AreWithin (length texts)) (sym e) tt;
+  within = subst (AreWithin (laid_in texts)) (sym e) tt;
 }
 
 -- one more
@@ -77,18 +112,19 @@ pub one_laid : (old new : List ℕ) (done all : List tape.Node) (nodes more : Li
     → LaidSoFar old done nodes → IsLaid old new n own → more ≡ nodes ++ (own ∷ []) → all ≡ done ++ (n ∷ [])
     → LaidSoFar new all more
 one_laid old new done all nodes more n own s is made next =
-    let stay : tokens_at new nodes ≡ map node_token done = ap (λ l. tokens_at l nodes) is.behind
+    let stay : tokens_at (laid_in new) nodes ≡ map node_token done =
+    ap (λ l. tokens_at (laid_in l) nodes) is.behind
     ∙ tokens_stay old is.more nodes s.within ∙ s.tokens in
-    let longer : length old ≤ length new = omega (arith, ap length is.behind, length-append old is.more) in
     record {
-      tokens = ap (tokens_at new) made ∙ map-append (token_at new) nodes (own ∷ [])
+      tokens = ap (tokens_at (laid_in new)) made ∙ map-append (token_at (laid_in new)) nodes (own ∷ [])
           ∙ ap₂ (λ l t. l ++ (t ∷ [])) stay is.token ∙ sym (map-append node_token done (n ∷ []))
           ∙ ap (map node_token) (sym next);
       links = ap (map link_of) made ∙ map-append link_of nodes (own ∷ [])
           ∙ ap₂ (λ l t. l ++ (t ∷ [])) s.links is.link ∙ sym (map-append link_in done (n ∷ []))
           ∙ ap (map link_in) (sym next);
-      within = subst (AreWithin (length new)) (sym made) (within_more (length new) nodes own
-          (all_wider (length old) (length new) nodes longer s.within) is.within);
+      within = subst (AreWithin (laid_in new)) (sym made) (within_more (laid_in new) nodes own
+          (subst (λ l. AreWithin (laid_in l) nodes) (sym is.behind)
+          (all_stay_within old is.more nodes s.within)) is.within);
     }
 
 -- ---- links

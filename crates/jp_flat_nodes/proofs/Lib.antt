@@ -1,8 +1,10 @@
 mod Vectors
 mod Cuts
+mod Spelling
 mod Printing
 mod Growing
 mod Digits
+mod Unescaping
 mod OneNode
 mod Loops
 mod WholeLine

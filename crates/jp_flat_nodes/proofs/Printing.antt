@@ -5,105 +5,107 @@ use Rattle.std.proofs.Common.{append-nil}
 use Rattle.std.proofs.lemmas.List.{map-append}
 use Rattle.json.specs.Json.{Json, null, boolean, number, string, array, object, Items, no_items, item}
 use Rattle.json.specs.Json.{Members, no_members, member}
-use Rattle.json.specs.Print.{token_text, separator, begins, ends}
-use Rattle.json.specs.Spaced.{AreGaps, print_spaced}
+use Rattle.json.specs.Print.{separator, begins, ends}
 use Rattle.json.specs.Token.{Token}
 use Rattle.json.specs.Tree.{json_tokens, items_tokens, members_tokens}
 use Rattle.json.proofs.Printed.Tokens.{IsGap-append}
-use Rattle.jp_flat_nodes.specs.inner.Reads.{Prints, ended, begin}
+use Rattle.jp_flat_nodes.specs.inner.Reads.{Prints, ended, begin, IsSpelling, Spelled, AreSpelled, spell}
 use Rattle.jp_flat_nodes.proofs.Cuts.{Blanks}
 
-abbrev tokens_in : List (List ℕ × Token) → List Token
-tokens_in ps = map (λ p. p.1) ps
+abbrev tokens_in : List Spelled → List Token
+tokens_in ps = map (λ p. p.token) ps
 
-gaps_append : (ps qs : List (List ℕ × Token)) → AreGaps ps → AreGaps qs → AreGaps (ps ++ qs)
-gaps_append [] qs h k = k
-gaps_append (p ∷ ps) qs h k = (h.0, gaps_append ps qs h.1 k)
+spelled_append : (ps qs : List Spelled) → AreSpelled ps → AreSpelled qs → AreSpelled (ps ++ qs)
+spelled_append [] qs h k = k
+spelled_append (p ∷ ps) qs h k = (h.0, h.1, spelled_append ps qs h.2 k)
 
-printed_append : (c : Bool) (ps qs : List (List ℕ × Token))
-    → print_spaced c (ps ++ qs) ≡ print_spaced c ps ++ print_spaced (ended c (tokens_in ps)) qs
-unfolding print_spaced
+printed_append : (c : Bool) (ps qs : List Spelled)
+    → spell c (ps ++ qs) ≡ spell c ps ++ spell (ended c (tokens_in ps)) qs
+unfolding spell
 printed_append c [] qs = refl
 printed_append c (p ∷ ps) qs =
-    let comma = separator c p.1 in
-    let rest = print_spaced (ends p.1) ps in
-    let others = print_spaced (ended (ends p.1) (tokens_in ps)) qs in
-    ap (λ l. comma ++ (p.0 ++ (token_text p.1 ++ l))) (printed_append (ends p.1) ps qs)
-    ∙ ap (λ l. comma ++ (p.0 ++ l)) (sym (append_assoc (token_text p.1) rest others))
-    ∙ ap (λ l. comma ++ l) (sym (append_assoc p.0 (token_text p.1 ++ rest) others))
-    ∙ sym (append_assoc comma (p.0 ++ (token_text p.1 ++ rest)) others)
+    let comma = separator c p.token in
+    let rest = spell (ends p.token) ps in
+    let others = spell (ended (ends p.token) (tokens_in ps)) qs in
+    ap (λ l. comma ++ (p.gap ++ (p.text ++ l))) (printed_append (ends p.token) ps qs)
+    ∙ ap (λ l. comma ++ (p.gap ++ l)) (sym (append_assoc p.text rest others))
+    ∙ ap (λ l. comma ++ l) (sym (append_assoc p.gap (p.text ++ rest) others))
+    ∙ sym (append_assoc comma (p.gap ++ (p.text ++ rest)) others)
 
 -- one part behind another
 pub both : (line : List ℕ) (c : Bool) (from mid end : ℕ) (ts us : List Token) → Prints line c from mid ts
     → Prints line (ended c ts) mid end us → Prints line c from end (ts ++ us)
 both line c from mid end ts us p q = record {
   printed = p.printed ++ q.printed;
-  gaps = gaps_append p.printed q.printed p.gaps q.gaps;
-  are = map-append (λ r. r.1) p.printed q.printed ∙ ap₂ (λ l m. l ++ m) p.are q.are;
-  text = p.text ∙ ap (λ l. print_spaced c p.printed ++ l) q.text
-      ∙ sym (append_assoc (print_spaced c p.printed) _ (drop end line))
-      ∙ ap (λ ks. (print_spaced c p.printed ++ print_spaced (ended c ks) q.printed) ++ drop end line)
-      (sym p.are)
+  spelled = spelled_append p.printed q.printed p.spelled q.spelled;
+  are = map-append (λ r. r.token) p.printed q.printed ∙ ap₂ (λ l m. l ++ m) p.are q.are;
+  text = p.text ∙ ap (λ l. spell c p.printed ++ l) q.text
+      ∙ sym (append_assoc (spell c p.printed) _ (drop end line))
+      ∙ ap (λ ks. (spell c p.printed ++ spell (ended c ks) q.printed) ++ drop end line) (sym p.are)
       ∙ ap (λ l. l ++ drop end line) (sym (printed_append c p.printed q.printed));
 }
 
+abbrev spelled_so : List ℕ → Token → List ℕ → Spelled
+spelled_so gap token text = record { gap = gap; token = token; text = text }
+
 -- one token, behind blanks
-pub one : (line : List ℕ) (c : Bool) (from at end : ℕ) (t : Token) → separator c t ≡ []
-    → Blanks line from at → drop at line ≡ token_text t ++ drop end line → Prints line c from end (t ∷ [])
-unfolding print_spaced
-one line c from at end t none b text = record {
-  printed = (b.gap, t) ∷ [];
-  gaps = (b.is, tt);
+pub one : (line : List ℕ) (c : Bool) (from at end : ℕ) (t : Token) (w : List ℕ) → separator c t ≡ []
+    → IsSpelling t w → Blanks line from at → drop at line ≡ w ++ drop end line
+    → Prints line c from end (t ∷ [])
+unfolding spell
+one line c from at end t w none is b text = record {
+  printed = spelled_so b.gap t w ∷ [];
+  spelled = (b.is, is, tt);
   are = refl;
-  text = b.text ∙ ap (λ l. b.gap ++ l) (text ∙ ap (λ l. l ++ drop end line) (sym (append-nil (token_text t))))
-      ∙ sym (append_assoc b.gap (token_text t ++ []) (drop end line))
-      ∙ ap (λ l. (l ++ (b.gap ++ (token_text t ++ []))) ++ drop end line) (sym none);
+  text = b.text ∙ ap (λ l. b.gap ++ l) (text ∙ ap (λ l. l ++ drop end line) (sym (append-nil w)))
+      ∙ sym (append_assoc b.gap (w ++ []) (drop end line))
+      ∙ ap (λ l. (l ++ (b.gap ++ (w ++ []))) ++ drop end line) (sym none);
 }
 
 no_blank : (line : List ℕ) (at : ℕ) → Blanks line at at
 no_blank line at = record { gap = []; is = tt; text = refl; later = omega arith }
 
 -- the same with no blank
-pub here : (line : List ℕ) (c : Bool) (at end : ℕ) (t : Token) → separator c t ≡ []
-    → drop at line ≡ token_text t ++ drop end line → Prints line c at end (t ∷ [])
-here line c at end t none text = one line c at at end t none (no_blank line at) text
+pub here : (line : List ℕ) (c : Bool) (at end : ℕ) (t : Token) (w : List ℕ) → separator c t ≡ []
+    → IsSpelling t w → drop at line ≡ w ++ drop end line → Prints line c at end (t ∷ [])
+here line c at end t w none is text = one line c at at end t w none is (no_blank line at) text
 
 -- blanks before a part
 pub behind : (line : List ℕ) (from at end : ℕ) (ts : List Token) → begin ts ≡ true → Blanks line from at
     → Prints line false at end ts → Prints line false from end ts
-unfolding print_spaced
-behind line from at end ts some b p = go p.printed p.gaps p.are p.text
+unfolding spell
+behind line from at end ts some b p = go p.printed p.spelled p.are p.text
   where
-    go : (ps : List (List ℕ × Token)) → AreGaps ps → tokens_in ps ≡ ts
-        → drop at line ≡ print_spaced false ps ++ drop end line → Prints line false from end ts
-    go [] gaps are text = absurd (let none = ap begin are in cc)
-    go (q ∷ qs) gaps are text = record {
-      printed = (b.gap ++ q.0, q.1) ∷ qs;
-      gaps = (IsGap-append b.gap q.0 b.is gaps.0, gaps.1);
+    go : (ps : List Spelled) → AreSpelled ps → tokens_in ps ≡ ts
+        → drop at line ≡ spell false ps ++ drop end line → Prints line false from end ts
+    go [] spelled are text = absurd (let none = ap begin are in cc)
+    go (q ∷ qs) spelled are text = record {
+      printed = spelled_so (b.gap ++ q.gap) q.token q.text ∷ qs;
+      spelled = (IsGap-append b.gap q.gap b.is spelled.0, spelled.1, spelled.2);
       are = are;
       text = b.text ∙ ap (λ l. b.gap ++ l) text
-          ∙ sym (append_assoc b.gap (q.0 ++ (token_text q.1 ++ print_spaced (ends q.1) qs)) (drop end line))
+          ∙ sym (append_assoc b.gap (q.gap ++ (q.text ++ spell (ends q.token) qs)) (drop end line))
           ∙ ap (λ l. l ++ drop end line)
-          (sym (append_assoc b.gap q.0 (token_text q.1 ++ print_spaced (ends q.1) qs)));
+          (sym (append_assoc b.gap q.gap (q.text ++ spell (ends q.token) qs)));
     }
 
 -- a comma before a part
 pub after_comma : (line : List ℕ) (from at end : ℕ) (ts : List Token) → begin ts ≡ true
     → drop from line ≡ 44 ∷ drop at line → Prints line false at end ts → Prints line true from end ts
-unfolding print_spaced
-after_comma line from at end ts some comma p = go p.printed p.gaps p.are p.text
+unfolding spell
+after_comma line from at end ts some comma p = go p.printed p.spelled p.are p.text
   where
-    go : (ps : List (List ℕ × Token)) → AreGaps ps → tokens_in ps ≡ ts
-        → drop at line ≡ print_spaced false ps ++ drop end line → Prints line true from end ts
-    go [] gaps are text = absurd (let none = ap begin are in cc)
-    go (q ∷ qs) gaps are text =
-        let first : begins q.1 ≡ true = ap begin are ∙ some in
+    go : (ps : List Spelled) → AreSpelled ps → tokens_in ps ≡ ts
+        → drop at line ≡ spell false ps ++ drop end line → Prints line true from end ts
+    go [] spelled are text = absurd (let none = ap begin are in cc)
+    go (q ∷ qs) spelled are text =
+        let first : begins q.token ≡ true = ap begin are ∙ some in
         record {
           printed = q ∷ qs;
-          gaps = gaps;
+          spelled = spelled;
           are = are;
           text = comma ∙ ap (λ l. 44 ∷ l) text
-              ∙ ap (λ b. (cond b (44 ∷ []) [] ++ (q.0 ++ (token_text q.1 ++ print_spaced (ends q.1) qs)))
+              ∙ ap (λ b. (cond b (44 ∷ []) [] ++ (q.gap ++ (q.text ++ spell (ends q.token) qs)))
               ++ drop end line) (sym first);
         }
 

@@ -6,17 +6,16 @@ use Rattle.std.proofs.lemmas.List.{drop_all}
 use Rattle.json.specs.Json.{Json, value, if_last, max_depth}
 use Rattle.json.specs.Lex.{tokens}
 use Rattle.json.specs.Print.{ArePrintable}
-use Rattle.json.specs.Spaced.{print_spaced}
 use Rattle.json.specs.Tape.{Passes}
 use Rattle.json.specs.Token.{Token}
 use Rattle.json.specs.Tree as tree
 use Rattle.json.specs.Tree.{json_tokens}
-use Rattle.json.proofs.Printed.Tokens.{tokens-print_spaced}
 use Rattle.json.proofs.Printed.Trees.{value-json_tokens, ArePrintable-json_tokens}
-use Rattle.jp_flat_nodes.specs.Nodes.{IsRead, tokens_at, AreWithin}
-use Rattle.jp_flat_nodes.specs.inner.Reads.{Reads, Spans}
+use Rattle.jp_flat_nodes.specs.Nodes.{Source, IsRead, tokens_at, AreWithin}
+use Rattle.jp_flat_nodes.specs.inner.Reads.{Reads, Spans, spell}
 use Rattle.jp_flat_nodes.specs.declared.node.FlatNode.{FlatNode}
 use Rattle.jp_flat_nodes.proofs.Cuts.{Blanks}
+use Rattle.jp_flat_nodes.proofs.Spelling.{tokens_spelled}
 use Rattle.jp_flat_nodes.proofs.Printing.{behind, value_begins}
 
 some_token : (j : Json) → 0 < length (json_tokens j)
@@ -52,28 +51,29 @@ passes all i end s =
     )
 
 -- the line is a value's text, behind blanks
-pub whole_line : (line : List ℕ) (decimals : Bool) (from end : ℕ) (empty nodes : List FlatNode)
-    → Blanks line 0 from
-    → Reads line decimals from end 127 empty nodes → end ≡ length line → empty ≡ [] → length nodes ≤ 268435456
-    → IsRead decimals line nodes
-whole_line line decimals from end empty nodes blanks r all none few =
-    let p = behind line 0 from end (json_tokens r.value) (value_begins r.value) blanks r.text in
+pub whole_line : (src : Source) (decimals : Bool) (from end : ℕ) (empty nodes : List FlatNode)
+    → Blanks src.line 0 from
+    → Reads src decimals from end 127 empty nodes → end ≡ length src.line → empty ≡ []
+    → length nodes ≤ 268435456
+    → IsRead decimals src nodes
+whole_line src decimals from end empty nodes blanks r all none few =
+    let p = behind src.line 0 from end (json_tokens r.value) (value_begins r.value) blanks r.text in
     let printed = ArePrintable-json_tokens r.value r.numbers in
-    let rest : drop end line ≡ [] = drop_all end line (omega arith) in
-    let whole : line ≡ print_spaced false p.printed = p.text
-    ∙ ap (λ l. print_spaced false p.printed ++ l) rest ∙ append-nil (print_spaced false p.printed) in
-    let spelled : tokens line ≡ json_tokens r.value = ap tokens whole
-    ∙ tokens-print_spaced p.printed p.gaps (subst ArePrintable (sym p.are) printed) ∙ p.are in
-    let are : tokens_at line nodes ≡ tokens line = r.grows.tokens
-    ∙ ap (λ ns. tokens_at line ns ++ json_tokens r.value) none ∙ sym spelled in
+    let rest : drop end src.line ≡ [] = drop_all end src.line (omega arith) in
+    let whole : src.line ≡ spell false p.printed = p.text
+    ∙ ap (λ l. spell false p.printed ++ l) rest ∙ append-nil (spell false p.printed) in
+    let spelled : tokens src.line ≡ json_tokens r.value = ap tokens whole
+    ∙ tokens_spelled p.printed p.spelled (subst ArePrintable (sym p.are) printed) ∙ p.are in
+    let are : tokens_at src nodes ≡ tokens src.line = r.grows.tokens
+    ∙ ap (λ ns. tokens_at src ns ++ json_tokens r.value) none ∙ sym spelled in
     record {
       value = r.value;
-      is = document_is r.value (tokens line) spelled r.nests;
+      is = document_is r.value (tokens src.line) spelled r.nests;
       spelled = r.numbers;
       nests = r.nests;
       numbers = r.taken;
       are = are;
-      linked = λ i e link. subst (λ ts. Passes ts i e) are (passes (tokens_at line nodes) i e
+      linked = λ i e link. subst (λ ts. Passes ts i e) are (passes (tokens_at src nodes) i e
           (r.grows.linked i e (omega (arith, ap length none)) link));
       within = r.grows.within (nothing_within empty none);
       few = few;
@@ -87,5 +87,5 @@ whole_line line decimals from end empty nodes blanks r all none few =
         ∙ ap (option_and_then (λ p. if_last p.0 p.1))
         (value-json_tokens j max_depth [] (omega arith))
 
-    nothing_within : (ns : List FlatNode) → ns ≡ [] → AreWithin (length line) ns
-    nothing_within ns e = subst (AreWithin (length line)) (sym e) tt
+    nothing_within : (ns : List FlatNode) → ns ≡ [] → AreWithin src ns
+    nothing_within ns e = subst (AreWithin src) (sym e) tt

@@ -1,6 +1,7 @@
 //! Bytes of a line.
 
-ghost use Rattle.std.specs.Prelude.{◌≡◌, ◌≢◌, ◌+◌, ◌<◌, ◌≤◌, ◌++◌, length, drop, get_or, map};
+ghost use Rattle.std.specs.Prelude.{◌≡◌, ◌≢◌, ◌+◌, ◌<◌, ◌≤◌, ◌++◌, ◌∷◌, ◌^◌, IsTrue, length, drop, get_or};
+ghost use Rattle.std.specs.Prelude.{map};
 ghost use Rattle.std.specs.Char.{is_ascii_digit};
 ghost use Rattle.std.specs.List.{prefix_len};
 ghost use Rattle.std.specs.Simd.Lanes.{mask_l};
@@ -118,4 +119,14 @@ fn blanks_end_by_bytes(line: &[u8], from: usize) -> usize
         at += 1;
     }
     at
+}
+
+/// Whether these three bytes stand behind the place.
+#[inline(always)]
+pub(crate) fn goes_on(line: &[u8], at: usize, a: u8, b: u8, c: u8) -> bool
+    requires { (length line.now < 2 ^ 32) × (at < length line.now) × (0 < a) × (0 < b) × (0 < c) }
+    ensures { IsTrue result → (at + 4 ≤ length line.now)
+        × (drop (at + 1) line.now ≡ a ∷ b ∷ c ∷ drop (at + 4) line.now) }
+{
+    byte_at(line, at + 1) == a && byte_at(line, at + 2) == b && byte_at(line, at + 3) == c
 }

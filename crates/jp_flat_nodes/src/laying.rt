@@ -3,11 +3,11 @@
 
 ghost use Rattle.std.specs.Prelude.{◌≡◌, ◌≤◌, IfOk, OnOk, length, map};
 ghost use Rattle.json.specs.Tape.{Linked, node_token};
-ghost use Rattle.jp_flat_nodes.specs.Nodes.{AreLinked, AreWithin, tokens_at};
+ghost use Rattle.jp_flat_nodes.specs.Nodes.{AreLinked, AreWithin, source, tokens_at};
 ghost use Rattle.jp_flat_nodes.specs.inner.Laid.{EndsWithin, IsKept, IsLaid};
 
 use crate::limits::MAX_TEXT;
-use crate::node::FlatNode;
+use crate::node::{FlatNode, FlatNodes};
 use json::Node as Taped;
 use std::alloc::AllocError;
 
@@ -49,11 +49,11 @@ fn laid(node: &Taped<'_>, texts: &mut Vec<u8>) -> Result<FlatNode, AllocError>
         Taped::EndArray => Ok(FlatNode::EndArray),
         Taped::Key(text) => {
             let kept = keep(text, texts)?;
-            Ok(FlatNode::Key(kept.from, kept.count))
+            Ok(FlatNode::EscapedKey(kept.from, kept.count))
         }
         Taped::String(text) => {
             let kept = keep(text, texts)?;
-            Ok(FlatNode::Text(kept.from, kept.count))
+            Ok(FlatNode::Escaped(kept.from, kept.count))
         }
         Taped::Number(text) => {
             let kept = keep(text, texts)?;
@@ -64,26 +64,24 @@ fn laid(node: &Taped<'_>, texts: &mut Vec<u8>) -> Result<FlatNode, AllocError>
     }
 }
 
-/// Lays the nodes of a tape: with their texts in `texts`, they are its tokens.
+/// Lays the nodes of a tape: with their texts and numbers in `texts`, they are its tokens.
 ///
 /// `AllocError` if a growth was refused, or where there is more text than any line has.
-pub fn lay(
-    tape: &[Taped<'_>],
-    texts: &mut Vec<u8>,
-    nodes: &mut Vec<FlatNode>,
-) -> Result<(), AllocError>
+pub fn lay(tape: &[Taped<'_>], out: &mut FlatNodes) -> Result<(), AllocError>
     requires few { length tape.now ≤ 268435456 }
     requires linked { Linked (map node_token tape.now) 0 tape.now }
-    ensures tokens { OnOk result (tokens_at texts.new.items nodes.new.items ≡ map node_token tape.now) }
-    ensures linked { OnOk result (AreLinked (map node_token tape.now) nodes.new.items) }
-    ensures within { OnOk result (AreWithin (length texts.new.items) nodes.new.items) }
+    ensures tokens { OnOk result (tokens_at (source out.new.texts.items out.new.texts.items)
+        out.new.nodes.items ≡ map node_token tape.now) }
+    ensures linked { OnOk result (AreLinked (map node_token tape.now) out.new.nodes.items) }
+    ensures within { OnOk result (AreWithin (source out.new.texts.items out.new.texts.items)
+        out.new.nodes.items) }
 {
-    texts.clear();
-    nodes.clear();
-    nodes.reserve(tape.len())?;
+    out.texts.clear();
+    out.nodes.clear();
+    out.nodes.reserve(tape.len())?;
     for node in tape {
-        let own = laid(node, texts)?;
-        nodes.push(own)?;
+        let own = laid(node, &mut out.texts)?;
+        out.nodes.push(own)?;
     }
     Ok(())
 }

@@ -1,10 +1,11 @@
 //! Values with nothing inside, and names.
 
 ghost use Rattle.std.specs.Prelude.{◌≡◌, ◌≤◌, ◌<◌, ◌+◌, ◌^◌, ◌∷◌, IsTrue, length, drop, get_or};
-ghost use Rattle.jp_flat_nodes.specs.inner.Reads.{IsPlainText, Reads, ReadsKey};
+ghost use Rattle.jp_flat_nodes.specs.inner.Reads.{IsPlainText, ReadsOn, ReadsKeyOn};
 
-use crate::bytes::{byte_at, plain_end};
-use crate::node::{FlatNode, REFUSED, put};
+use crate::bytes::{byte_at, goes_on, plain_end};
+use crate::escapes::unescape;
+use crate::node::{FlatNode, FlatNodes, REFUSED, put};
 
 /// The place of the quote that ends the text which begins here, where none of it is an escape.
 #[inline(always)]
@@ -22,59 +23,81 @@ fn closing(line: &[u8], from: usize) -> usize
 
 /// Reads a text, which begins at a quote: the place behind it, or `REFUSED`.
 #[inline(always)]
-pub(crate) fn text(
-    line: &[u8],
-    at: usize,
-    nodes: &mut Vec<FlatNode>,
-    depth: u32,
-    decimals: bool,
-) -> usize
+pub(crate) fn text(line: &[u8], at: usize, out: &mut FlatNodes, depth: u32, decimals: bool) -> usize
     requires { (length line.now < 2 ^ 32) × (get_or line.now at 0 ≡ 34) }
-    ensures { result ≤ length line.now
-        → Reads line.now decimals at result depth nodes.old.items nodes.new.items }
+    ensures { result ≤ length line.now → ReadsOn line.now decimals at result depth out.old out.new }
 {
     if at >= line.len() {
         return REFUSED;
     }
     let stop = closing(line, at + 1);
     if stop >= line.len() {
-        return REFUSED;
+        return escaped_text(line, at, out, depth, decimals);
     }
     put(
-        nodes,
+        &mut out.nodes,
         FlatNode::Text(at as u32 + 1, (stop - at - 1) as u32),
         stop + 1,
     )
 }
 
+/// The same of one that may have escapes.
+// Most texts have none: so this stands apart.
+#[inline(never)]
+fn escaped_text(line: &[u8], at: usize, out: &mut FlatNodes, depth: u32, decimals: bool) -> usize
+    requires { (length line.now < 2 ^ 32) × (at < length line.now) × (get_or line.now at 0 ≡ 34) }
+    ensures { result ≤ length line.now → ReadsOn line.now decimals at result depth out.old out.new }
+{
+    let Some(text) = unescape(line, at + 1, &mut out.texts) else {
+        return REFUSED;
+    };
+    put(
+        &mut out.nodes,
+        FlatNode::Escaped(text.from, text.count),
+        text.stop + 1,
+    )
+}
+
 /// Reads a name and its colon: the place behind it, or `REFUSED`.
 #[inline(always)]
-pub(crate) fn key(line: &[u8], at: usize, nodes: &mut Vec<FlatNode>) -> usize
+pub(crate) fn key(line: &[u8], at: usize, out: &mut FlatNodes) -> usize
     requires { length line.now < 2 ^ 32 }
-    ensures { result ≤ length line.now → ReadsKey line.now at result nodes.old.items nodes.new.items }
+    ensures { result ≤ length line.now → ReadsKeyOn line.now at result out.old out.new }
 {
     if byte_at(line, at) != b'"' {
         return REFUSED;
     }
     let stop = closing(line, at + 1);
-    if stop >= line.len() || byte_at(line, stop + 1) != b':' {
+    if stop >= line.len() {
+        return escaped_key(line, at, out);
+    }
+    if byte_at(line, stop + 1) != b':' {
         return REFUSED;
     }
     put(
-        nodes,
+        &mut out.nodes,
         FlatNode::Key(at as u32 + 1, (stop - at - 1) as u32),
         stop + 2,
     )
 }
 
-/// Whether these three bytes stand behind the place.
-#[inline(always)]
-fn goes_on(line: &[u8], at: usize, a: u8, b: u8, c: u8) -> bool
-    requires { (length line.now < 2 ^ 32) × (at < length line.now) × (0 < a) × (0 < b) × (0 < c) }
-    ensures { IsTrue result → (at + 4 ≤ length line.now)
-        × (drop (at + 1) line.now ≡ a ∷ b ∷ c ∷ drop (at + 4) line.now) }
+/// The same of one that may have escapes.
+#[inline(never)]
+fn escaped_key(line: &[u8], at: usize, out: &mut FlatNodes) -> usize
+    requires { (length line.now < 2 ^ 32) × (at < length line.now) × (get_or line.now at 0 ≡ 34) }
+    ensures { result ≤ length line.now → ReadsKeyOn line.now at result out.old out.new }
 {
-    byte_at(line, at + 1) == a && byte_at(line, at + 2) == b && byte_at(line, at + 3) == c
+    let Some(name) = unescape(line, at + 1, &mut out.texts) else {
+        return REFUSED;
+    };
+    if byte_at(line, name.stop + 1) != b':' {
+        return REFUSED;
+    }
+    put(
+        &mut out.nodes,
+        FlatNode::EscapedKey(name.from, name.count),
+        name.stop + 2,
+    )
 }
 
 /// Reads `true`, `false` or `null`: the place behind it, or `REFUSED`.
@@ -82,26 +105,25 @@ fn goes_on(line: &[u8], at: usize, a: u8, b: u8, c: u8) -> bool
 pub(crate) fn literal(
     line: &[u8],
     at: usize,
-    nodes: &mut Vec<FlatNode>,
+    out: &mut FlatNodes,
     depth: u32,
     decimals: bool,
 ) -> usize
     requires { length line.now < 2 ^ 32 }
-    ensures { result ≤ length line.now
-        → Reads line.now decimals at result depth nodes.old.items nodes.new.items }
+    ensures { result ≤ length line.now → ReadsOn line.now decimals at result depth out.old out.new }
 {
     if at >= line.len() {
         return REFUSED;
     }
     let first = line[at];
     if first == b't' && goes_on(line, at, b'r', b'u', b'e') {
-        return put(nodes, FlatNode::Truth(true), at + 4);
+        return put(&mut out.nodes, FlatNode::Truth(true), at + 4);
     }
     if first == b'n' && goes_on(line, at, b'u', b'l', b'l') {
-        return put(nodes, FlatNode::Null, at + 4);
+        return put(&mut out.nodes, FlatNode::Null, at + 4);
     }
     if first == b'f' && goes_on(line, at, b'a', b'l', b's') && byte_at(line, at + 4) == b'e' {
-        return put(nodes, FlatNode::Truth(false), at + 5);
+        return put(&mut out.nodes, FlatNode::Truth(false), at + 5);
     }
     REFUSED
 }

@@ -2,6 +2,7 @@
 #![tactic(auto)]
 
 mod bytes;
+mod escapes;
 mod laying;
 mod leaves;
 mod limits;
@@ -11,5 +12,5 @@ mod reading;
 
 pub use laying::lay;
 pub use limits::MAX_NODES;
-pub use node::FlatNode;
+pub use node::{FlatNode, FlatNodes};
 pub use reading::{read_decimal_line, read_line};

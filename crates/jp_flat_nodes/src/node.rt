@@ -4,9 +4,10 @@ ghost use Rattle.std.specs.Prelude.{◌≡◌, ◌++◌, ◌∷◌, [], ◌+◌,
 ghost use Rattle.jp_flat_nodes.specs.declared.node.FlatNode.TheVariants.{EndArray, Array, EndObject, Object};
 
 use crate::limits::MAX_NODES;
+use std::alloc::Global;
 
-/// A node: one for each token of a document. A text or a number is told by its place in the document's text
-/// and how many bytes it has.
+/// A node: one for each token of a document. A text or a number is told by its place in the line, or without
+/// its escapes in a text beside it, and how many bytes it has.
 // 12 bytes: what is written for each token of each line, and read again, is as small as it can be.
 #[derive(Clone, Copy, PartialEq, Eq, Debug, Drop)]
 pub enum FlatNode {
@@ -18,16 +19,40 @@ pub enum FlatNode {
     Array(u32),
     /// It ends.
     EndArray,
-    /// A member's name.
+    /// A member's name, which stands between its quotes in the line and has no escape; a colon stands right
+    /// behind it.
     Key(u32, u32),
-    /// A text.
+    /// A text that stands so.
     Text(u32, u32),
+    /// A member's name that stands without its escapes beside the line.
+    EscapedKey(u32, u32),
+    /// A text, likewise.
+    Escaped(u32, u32),
     /// A number.
     Number(u32, u32),
     /// `true` or `false`.
     Truth(bool),
     /// `null`.
     Null,
+}
+
+/// The nodes of a document, and the texts that do not stand in its line as they are.
+#[derive(Drop)]
+pub struct FlatNodes {
+    /// The nodes.
+    pub nodes: Vec<FlatNode>,
+    /// The texts of those that are escaped, one behind another.
+    pub texts: Vec<u8>,
+}
+
+impl FlatNodes {
+    /// No nodes yet, and no memory.
+    pub fn new(alloc: Global) -> FlatNodes {
+        FlatNodes {
+            nodes: Vec::new(alloc),
+            texts: Vec::new(alloc),
+        }
+    }
 }
 
 /// No place: the line is not read so.

@@ -1,12 +1,12 @@
 //! Numbers.
 
 ghost use Rattle.std.specs.Prelude.{◌≡◌, ◌≤◌, ◌<◌, ◌^◌, true, length, get_or};
-ghost use Rattle.jp_flat_nodes.specs.inner.Reads.{IsDigits, IsExponent, IsFraction, IsUnsigned, Reads};
+ghost use Rattle.jp_flat_nodes.specs.inner.Reads.{IsDigits, IsExponent, IsFraction, IsUnsigned, ReadsOn};
 ghost use Rattle.jp_flat_nodes.specs.inner.Reads.{behind_sign};
 
 use crate::bytes::{byte_at, digits_end};
 use crate::limits::{MAX_BYTES, MAX_DIGITS, MAX_EXPONENT};
-use crate::node::{FlatNode, REFUSED, put};
+use crate::node::{FlatNode, FlatNodes, REFUSED, put};
 
 /// Where the digits end that begin here, or `REFUSED` where there are none or too many, or a zero stands
 /// before others.
@@ -101,30 +101,36 @@ fn unsigned_end(line: &[u8], from: usize, decimals: bool) -> usize
 
 /// Reads a number that begins with a digit.
 #[inline(always)]
-fn unsigned(line: &[u8], at: usize, nodes: &mut Vec<FlatNode>, depth: u32, decimals: bool) -> usize
+fn unsigned(line: &[u8], at: usize, out: &mut FlatNodes, depth: u32, decimals: bool) -> usize
     requires { (length line.now < 2 ^ 32) × (at ≤ length line.now) }
-    ensures { result ≤ length line.now
-        → Reads line.now decimals at result depth nodes.old.items nodes.new.items }
+    ensures { result ≤ length line.now → ReadsOn line.now decimals at result depth out.old out.new }
 {
     let end = unsigned_end(line, at, decimals);
     if end > line.len() {
         return REFUSED;
     }
-    put(nodes, FlatNode::Number(at as u32, (end - at) as u32), end)
+    put(
+        &mut out.nodes,
+        FlatNode::Number(at as u32, (end - at) as u32),
+        end,
+    )
 }
 
 /// Reads a number behind a minus. It begins with no 0 where numbers are whole: `-0` is no whole number.
 #[inline(always)]
-fn negative(line: &[u8], at: usize, nodes: &mut Vec<FlatNode>, depth: u32, decimals: bool) -> usize
+fn negative(line: &[u8], at: usize, out: &mut FlatNodes, depth: u32, decimals: bool) -> usize
     requires { (length line.now < 2 ^ 32) × (at < length line.now) × (get_or line.now at 0 ≡ 45) }
-    ensures { result ≤ length line.now
-        → Reads line.now decimals at result depth nodes.old.items nodes.new.items }
+    ensures { result ≤ length line.now → ReadsOn line.now decimals at result depth out.old out.new }
 {
     let end = unsigned_end(line, at + 1, decimals);
     if end > line.len() || !decimals && byte_at(line, at + 1) == b'0' {
         return REFUSED;
     }
-    put(nodes, FlatNode::Number(at as u32, (end - at) as u32), end)
+    put(
+        &mut out.nodes,
+        FlatNode::Number(at as u32, (end - at) as u32),
+        end,
+    )
 }
 
 /// Reads a number: the place behind it, or `REFUSED`.
@@ -132,20 +138,19 @@ fn negative(line: &[u8], at: usize, nodes: &mut Vec<FlatNode>, depth: u32, decim
 pub(crate) fn number(
     line: &[u8],
     at: usize,
-    nodes: &mut Vec<FlatNode>,
+    out: &mut FlatNodes,
     depth: u32,
     decimals: bool,
 ) -> usize
     requires { length line.now < 2 ^ 32 }
-    ensures { result ≤ length line.now
-        → Reads line.now decimals at result depth nodes.old.items nodes.new.items }
+    ensures { result ≤ length line.now → ReadsOn line.now decimals at result depth out.old out.new }
 {
     if at >= line.len() {
         return REFUSED;
     }
     if line[at] == b'-' {
-        negative(line, at, nodes, depth, decimals)
+        negative(line, at, out, depth, decimals)
     } else {
-        unsigned(line, at, nodes, depth, decimals)
+        unsigned(line, at, out, depth, decimals)
     }
 }

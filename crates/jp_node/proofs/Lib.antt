@@ -18,3 +18,4 @@ pub mod Places
 pub mod Slicing
 pub mod ChildRanges
 pub mod Gathered
+pub mod Structured

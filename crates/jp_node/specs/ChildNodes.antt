@@ -1,8 +1,10 @@
 -- What the calls for children give: the children of a value as its kinds lie, and how high they are.
 use Rattle.std.specs.Prelude.{ℕ, suc, List, [], ◌∷◌, ◌++◌, map, max}
+use Rattle.std.specs.List.{filter}
 use Rattle.jp_doc.specs.Height.{height}
 use Rattle.jp_doc.specs.Json.{array, object, items}
 use Rattle.jp_doc.specs.Location.{Location, Node, node}
+use Rattle.jp_flat.specs.Structured.{is_structured}
 use Rattle.jp_node.specs.Links.{link_step}
 use Rattle.jp_node.specs.Inside.{item_values}
 use Rattle.jp_node.specs.Members.{members, list_entries}
@@ -23,6 +25,10 @@ listed_nodes at cs = map (child_node at) cs
 abbrev pub children_height : List Child → ℕ
 children_height [] = 0
 children_height (c ∷ cs) = max (suc (height (part_value c.part))) (children_height cs)
+
+-- the nodes among these whose values are arrays or objects
+abbrev pub structured_nodes : List Node → List Node
+structured_nodes ns = filter (λ n. is_structured n.value) ns
 
 -- the nodes of some children of a value, and how high the value is at least
 abbrev pub child_nodes : Location → Children → List Node

@@ -6,6 +6,7 @@ ghost use Rattle.jp_doc.specs.Height.{height};
 ghost use Rattle.jp_doc.specs.Location.{Location, node, name};
 ghost use Rattle.jp_node.specs.Part.{part_value};
 ghost use Rattle.jp_node.specs.ChildNodes.{listed_nodes, children_height, child_nodes, all_height};
+ghost use Rattle.jp_node.specs.ChildNodes.{structured_nodes};
 ghost use Rattle.jp_node.specs.Nodes.{child, children_at, items_at};
 
 use crate::items::Items;
@@ -45,6 +46,25 @@ pub fn children_of<'v>(alloc: Global, value: Part<'v>) -> Result<Children<'v>, A
     match value.inside() {
         Inside::Items(items) => Ok(Children::Items(items)),
         Inside::Members(members) => Ok(Children::Members(members.gather(alloc)?)),
+        Inside::Nothing => Ok(Children::Listed(Vec::new(alloc))),
+    }
+}
+
+/// The children of the value, of which an object's are those alone that are arrays or objects. An array's are
+/// all: its items are not listed, so none has to be left out.
+///
+/// `AllocError` if a growth was refused.
+pub fn structured_children_of<'v>(
+    alloc: Global,
+    value: Part<'v>,
+) -> Result<Children<'v>, AllocError>
+    ensures nodes { IfOk result (λ c. (at : Location) → structured_nodes (child_nodes at c)
+        ≡ structured_nodes (children_at at (part_value value.entry))) }
+    ensures height { IfOk result (λ c. all_height c ≤ height (part_value value.entry)) }
+{
+    match value.inside() {
+        Inside::Items(items) => Ok(Children::Items(items)),
+        Inside::Members(members) => Ok(Children::Members(members.gather_structured(alloc)?)),
         Inside::Nothing => Ok(Children::Listed(Vec::new(alloc))),
     }
 }

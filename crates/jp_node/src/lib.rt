@@ -24,7 +24,7 @@ mod visit;
 pub use bare_text::is_bare;
 pub use bounds::{Bounds, slice_bounds};
 pub use child_range::ChildRange;
-pub use children::{Child, Children, children_of, named, placed};
+pub use children::{Child, Children, children_of, named, placed, structured_children_of};
 pub use index::{place, place_in};
 pub use items::Items;
 pub use link::Link;

@@ -3,6 +3,7 @@
 ghost use Rattle.std.specs.Prelude.{◌≡◌, ◌↔◌, ◌++◌, [], ◌∷◌, length, IfOk, IsTrue, MatchOption};
 ghost use Rattle.std.specs.Str.{chars};
 ghost use Rattle.jp_doc.specs.Json.{no_members};
+ghost use Rattle.jp_flat.specs.Structured.{structured};
 ghost use Rattle.jp_node.specs.Inside.{members_in};
 ghost use Rattle.jp_node.specs.Members.{members, list_entries, range_entries};
 ghost use Rattle.jp_node.specs.Part.{part_value};
@@ -60,6 +61,18 @@ impl<'v> Members<'v> {
     {
         let mut list = Vec::with_capacity(alloc, MEMBERS_AT_FIRST)?;
         self.members.gather(&mut list)?;
+        Ok(MemberList { list })
+    }
+
+    /// The members whose values are arrays or objects, in rising order of their names, each name once.
+    ///
+    /// `AllocError` if a growth was refused.
+    // Many objects have none, and then no room is asked for.
+    pub(crate) fn gather_structured(self, alloc: Global) -> Result<MemberList<'v>, AllocError>
+        ensures { IfOk result (λ l. members (list_entries l) ≡ structured (members_in self.entry)) }
+    {
+        let mut list = Vec::new(alloc);
+        self.members.gather_structured(&mut list)?;
         Ok(MemberList { list })
     }
 }

@@ -89,14 +89,12 @@ impl<'v> Part<'v> {
     }
 
     /// Whether the value is of a kind that has nothing inside.
+    // A descent asks it of each item that it passes.
+    #[inline(always)]
     pub fn is_scalar(self) -> bool
         ensures { IsTrue result → IsScalar (part_value self.entry) }
     {
-        match self.inside() {
-            Inside::Items(_) => false,
-            Inside::Members(_) => false,
-            Inside::Nothing => true,
-        }
+        !self.value.is_structured()
     }
 
     /// What is inside of the value.

@@ -1,5 +1,5 @@
 -- The texts of arrays and objects, a piece at a time.
-use Rattle.std.proofs.Common.{◌≡◌, ℕ, ◌≤◌, Bool, true, false, List, [], ◌∷◌, ◌++◌, refl, ap, sym, subst}
+use Rattle.std.proofs.Common.{◌≡◌, ℕ, ◌<◌, ◌≤◌, Bool, true, false, List, [], ◌∷◌, ◌++◌, refl, ap, sym, subst}
 use Rattle.std.proofs.Common.{◌∙◌, append_assoc, arith}
 use Rattle.std.proofs.lemmas.Bool.{and_parts}
 use Rattle.std.proofs.lemmas.Bool.Decides.{nat_tests}
@@ -59,21 +59,21 @@ object_written list left later old opened out new none begun rest ended =
     ∙ ap (λ t. old ++ t) (sym (object_left (gathered list)))
 
 regroup : (old c k t rest : List ℕ)
-    → ((((old ++ c) ++ k) ++ 58 ∷ []) ++ t) ++ rest ≡ old ++ (c ++ (k ++ 58 ∷ (t ++ rest)))
+    → (((old ++ c) ++ (k ++ 58 ∷ [])) ++ t) ++ rest ≡ old ++ (c ++ (k ++ 58 ∷ (t ++ rest)))
 regroup old c k t rest = simp append_assoc
 
 -- one more member is written
 pub next_listed : (later : Bool) (m : FlatMember) (list left : List FlatMember)
-    (old divided named marked new total : List ℕ)
+    (old divided named new total : List ℕ)
     → list ≡ m ∷ left → divided ≡ old ++ comma_if later
-    → named ≡ divided ++ quoted (encode_utf8_all (chars m.name.now)) → marked ≡ named ++ 58 ∷ []
-    → new ≡ marked ++ value_text (flat_value m.value) → old ++ members_rest later list ≡ total
+    → named ≡ divided ++ (quoted (encode_utf8_all (chars m.name.now)) ++ 58 ∷ [])
+    → new ≡ named ++ value_text (flat_value m.value) → old ++ members_rest later list ≡ total
     → new ++ members_rest true left ≡ total
-next_listed later m list left old divided named marked new total is e f g h k =
+next_listed later m list left old divided named new total is e f h k =
     let name = quoted (encode_utf8_all (chars m.name.now)) in
     let text = value_text (flat_value m.value) in
     ap (λ xs. xs ++ members_rest true left)
-    (h ∙ ap (λ xs. xs ++ text) (g ∙ ap (λ xs. xs ++ 58 ∷ []) (f ∙ ap (λ xs. xs ++ name) e)))
+    (h ∙ ap (λ xs. xs ++ text) (f ∙ ap (λ xs. xs ++ (name ++ 58 ∷ [])) e))
     ∙ regroup old (comma_if later) name text (members_rest true left)
     ∙ sym (ap (λ l. old ++ members_rest later l) is) ∙ k
 
@@ -81,3 +81,8 @@ pub left_height : (m : FlatMember) (list left : List FlatMember) (n : ℕ) → l
     → height (object (gathered list)) ≤ n → height (object (gathered left)) ≤ n
 left_height m list left n is h =
     let e = ap (λ l. height (object (gathered l))) is in omega (arith, e, h)
+
+pub first_height : (m : FlatMember) (list left : List FlatMember) (n : ℕ) → list ≡ m ∷ left
+    → height (object (gathered list)) ≤ n → height (flat_value m.value) < n
+first_height m list left n is h =
+    let e = ap (λ l. height (object (gathered l))) is in omega (arith, h, e)

@@ -1,3 +1,4 @@
+pub mod Copied
 pub mod FieldBytes
 pub mod Fields
 pub mod FlatTexts
@@ -8,6 +9,9 @@ pub mod NumberedLines
 pub mod NumberFields
 pub mod OnLiterals
 pub mod PathBytes
+pub mod RowBytes
+pub mod RowFields
+pub mod Steps
 pub mod Texts
 pub mod ThirdFields
 pub mod UnquotedTexts

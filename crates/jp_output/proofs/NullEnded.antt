@@ -1,12 +1,11 @@
 -- Where U+0000 ends values: it stands nowhere else in their texts.
-use Rattle.std.proofs.Common.{◌≡◌, ℕ, ◌+◌, ◌≤◌, ◌<◌, ◌==◌, nat_lt, cond, List, [], ◌∷◌, ◌++◌, refl, ap, sym, ◌∙◌}
+use Rattle.std.proofs.Common.{◌≡◌, ℕ, ◌≤◌, ◌==◌, nat_lt, cond, List, [], ◌∷◌, ◌++◌, refl, ap, sym, ◌∙◌}
 use Rattle.std.proofs.Common.{arith, append_assoc, flat_map, length, encode_utf8_all, Bool, true, false}
 use Rattle.std.proofs.lemmas.Bool.Decides.{nat_tests}
 use Rattle.std.specs.List.{AllByRecursion}
 use lib.Utf8.{encode}
 use Rattle.jp_doc.specs.Json as json
 use Rattle.jp_doc.specs.Json.{Json, Text, null, truth, text, array, object}
-use Rattle.jp_doc.specs.Lines.{all_lines}
 use Rattle.jp_doc.specs.Location.{Node}
 use Rattle.jp_doc.specs.NumbersWithin.{HasJsonNumbers}
 use Rattle.jp_output.specs.Fields.{times, IsEndedOnceBy, NodesHaveJsonNumbers, lines_ended_by}

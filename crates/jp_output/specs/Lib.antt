@@ -7,5 +7,6 @@ pub mod NumberedLines
 pub mod OutputForm
 pub mod OutputLine
 pub mod RawText
+pub mod Rows
 pub mod UnquotedText
 pub mod inner

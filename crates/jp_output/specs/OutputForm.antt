@@ -9,6 +9,7 @@ use Rattle.jp_output.specs.FaultLine.{fault_line}
 use Rattle.jp_output.specs.InputLine.{input_line}
 use Rattle.jp_output.specs.OutputLine.{node_line, ended_by, value_text}
 use Rattle.jp_output.specs.RawText.{raw_text}
+use Rattle.jp_output.specs.Rows.{Path, row_line}
 use Rattle.jp_output.specs.UnquotedText.{unquoted_text}
 
 -- the bytes for a line's document, of which these nodes are selected, and for a faulty line with this number
@@ -56,3 +57,7 @@ raw_lines = lines_of raw_text
 -- the form of input lines: each line that has a node which is selected, as it came
 abbrev pub input_lines : OutputForm
 input_lines = record { of_document = λ l ns. input_line l.1 ns; of_fault = λ _ _. [] }
+
+-- the form of rows: for each node its fields, and nothing for a faulty line
+abbrev pub row_lines : List Path → OutputForm
+row_lines fields = record { of_document = λ _ ns. flat_map (row_line fields) ns; of_fault = λ _ _. [] }

@@ -2,4 +2,5 @@
 pub mod Buffered
 pub mod Fronts
 pub mod Heads
+pub mod SharedFields
 pub mod Taken

@@ -1,64 +1,8 @@
 //! What stands before each line of nodes.
 
-ghost use Rattle.std.specs.Prelude.{◌≡◌, IfOk};
-ghost use Rattle.std.specs.Arc.{arc_value};
-ghost use Rattle.std.specs.Option.{ForSome};
-
-use boxcar::slot::{OnceSlot, SlotRule, Written};
-use boxcar::tag::Tag;
+use crate::shared::Shared;
 use std::alloc::{AllocError, Global};
 use std::marker::Model;
-use std::snapshot::Snapshot;
-use std::sync::Arc;
-
-/// What is asked of the bytes that a label shows: nothing.
-struct AnyBytes;
-
-impl SlotRule<Snapshot<Vec<u8>>> for AnyBytes {
-    ghost use Rattle.std.specs.Prelude.{◌≡◌};
-
-    ghost holds = { λ _ shown. shown ≡ shown };
-}
-
-/// Bytes with several owners, and a label that shows them.
-#[derive(Drop)]
-struct Shared {
-    /// The bytes, unless one more owner was refused: then the label alone tells which they are.
-    bytes: Option<Arc<Vec<u8>, Global>>,
-    shown: Written<Snapshot<Vec<u8>>>,
-    ghost same: { ForSome bytes (λ b. arc_value b ≡ shown.value.value) },
-}
-
-impl Shared {
-    /// These bytes. `AllocError` if memory was refused.
-    fn new(alloc: Global, bytes: Vec<u8>) -> Result<Shared, AllocError>
-        ensures { IfOk result (λ s. s.shown.value.value ≡ bytes) }
-    {
-        let slot: OnceSlot<Snapshot<Vec<u8>>, AnyBytes> = OnceSlot::new(&Tag::empty());
-        // No clause says that a fresh slot takes what it is given.
-        let Ok(shown) = slot.set_written(Snapshot::of(&bytes)) else {
-            return Err(AllocError);
-        };
-        Ok(Shared {
-            bytes: Some(Arc::new(alloc, bytes)?),
-            shown,
-        })
-    }
-
-    /// The same bytes.
-    fn again(&self) -> Shared
-        ensures { result.shown.value.value ≡ self.now.shown.value.value }
-    {
-        let bytes = match &self.bytes {
-            Some(bytes) => Arc::try_clone(bytes).ok(),
-            None => None,
-        };
-        Shared {
-            bytes,
-            shown: self.shown.again(),
-        }
-    }
-}
 
 /// What stands before each line of nodes: a name and a tab, or nothing. It means these bytes.
 ///
@@ -66,7 +10,7 @@ impl Shared {
 /// ones are refused where they are written (README, Heads are shared by their copies).
 #[derive(Drop)]
 pub struct Head {
-    shared: Option<Shared>,
+    shared: Option<Shared<Vec<u8>>>,
 }
 
 impl Model for Head {
@@ -79,7 +23,7 @@ impl Model for Head {
 }
 
 impl Head {
-    ghost use Rattle.std.specs.Prelude.{[], ◌∷◌, ◌++◌, OnOk};
+    ghost use Rattle.std.specs.Prelude.{◌≡◌, [], ◌∷◌, ◌++◌, IfOk, OnOk};
     ghost use Rattle.jp_node.specs.Appended.{Extends};
 
     /// Nothing. It takes no memory.
@@ -120,7 +64,7 @@ impl Head {
         let Some(shared) = &self.shared else {
             return Ok(());
         };
-        let Some(bytes) = &shared.bytes else {
+        let Some(bytes) = shared.value() else {
             return Err(AllocError);
         };
         out.extend_from_slice(bytes.as_slice())

@@ -17,9 +17,10 @@ ghost use Rattle.jp_output.specs.Fields.{IsEndedOnceBy, lines_ended_by};
 ghost use Rattle.jp_output.specs.NumberedLines.{of_documents, lines_of_documents, AreNumberedAbove};
 ghost use Rattle.jp_output.specs.NumberedLines.{first_fields, lines_numbered};
 ghost use Rattle.jp_output.specs.OutputForm.{node_lines, node_lines_behind, value_lines, text_lines};
-ghost use Rattle.jp_output.specs.OutputForm.{input_lines, values_ended_by};
+ghost use Rattle.jp_output.specs.OutputForm.{input_lines, row_lines, values_ended_by};
 ghost use Rattle.jp_output.specs.OutputLine.{value_text, node_line, put_line, value_line, ended_by};
 ghost use Rattle.jp_output.specs.RawText.{raw_text, HasNoNull, NodesHaveNoNull};
+ghost use Rattle.jp_output.specs.Rows.{Path, row_line};
 ghost use Rattle.jp_output.specs.UnquotedText.{text_line, unquoted_text};
 
 /// The compact text of a value whose numbers are whole is the text that the JSON crate writes of it, and so
@@ -119,6 +120,18 @@ pub fn raw_ended_by_null()
         → IsEndedOnceBy 0 (ended_by 0 raw_text n) }
     ensures counted { (l : Line) (ns : List Node) → NodesHaveJsonNumbers ns → NodesHaveNoNull ns
         → times 0 ((values_ended_by 0 raw_text).of_document l ns) ≡ length ns }
+{}
+
+/// A row has one tab fewer than fields, and one line feed, which is the last byte, of whatever node whose
+/// numbers are those of RFC 8259 (as all numbers of a document are), also where a text has tabs and line feeds,
+/// and where a field has no value. So rows can be cut at line feeds and each at its tabs, and there are as many
+/// as nodes.
+pub fn rows()
+    ensures tabs { (f : Path) (fs : List Path) (n : Node) → HasJsonNumbers n.value
+        → times 9 (row_line (f ∷ fs) n) ≡ length fs }
+    ensures one_line { (fs : List Path) (n : Node) → HasJsonNumbers n.value → IsOneLine (row_line fs n) }
+    ensures one_each { (fs : List Path) (l : Line) (ns : List Node) → NodesHaveJsonNumbers ns
+        → times 10 ((row_lines fs).of_document l ns) ≡ length ns }
 {}
 
 /// The form of input lines has the line, once, of a document of which a node is selected, and nothing of

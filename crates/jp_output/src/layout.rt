@@ -1,8 +1,10 @@
-//! What stands around what is written: a head before lines of nodes, and an ending behind values.
+//! What stands around what is written: a head before lines of nodes, and an ending behind values; and the
+//! fields of rows.
 
 ghost use Rattle.std.specs.Prelude.{◌≡◌, []};
 ghost use Rattle.jp_output.specs.Layouts.{ending_byte};
 
+use crate::field::FieldList;
 use crate::head::Head;
 
 /// What ends the text of each value.
@@ -33,17 +35,21 @@ pub struct Layout {
     pub head: Head,
     /// What ends the text of each value, in a form of values.
     pub ending: Ending,
+    /// What is written of each node, in the form of rows.
+    pub fields: FieldList,
 }
 
 impl Layout {
-    /// No head, and line feeds. It takes no memory.
+    /// No head, line feeds and no fields. It takes no memory.
     pub fn plain() -> Layout
         ensures head { result.head ≡ [] }
         ensures ending { result.ending ≡ Ending.LineFeed }
+        ensures fields { result.fields ≡ [] }
     {
         Layout {
             head: Head::none(),
             ending: Ending::LineFeed,
+            fields: FieldList::none(),
         }
     }
 }

@@ -1,10 +1,11 @@
 //! The compact text of a value (RFC 8259), appended piece by piece.
 
-ghost use Rattle.std.specs.Prelude.{◌≡◌, ◌++◌, OnOk};
+ghost use Rattle.std.specs.Prelude.{◌≡◌, ◌++◌, ◌∷◌, [], OnOk};
+ghost use Rattle.std.specs.Str.{chars};
 ghost use Rattle.jp_doc.specs.Json.{Items, array, object};
 ghost use Rattle.jp_flat.specs.Gathered.{gathered};
 ghost use Rattle.jp_flat.specs.Value.{flat_value, items_value, members_value};
-ghost use Rattle.jp_output.specs.OutputLine.{value_text};
+ghost use Rattle.jp_output.specs.OutputLine.{quoted_text, value_text};
 ghost use Rattle.jp_node.specs.Appended.{Extends};
 ghost use Rattle.serde_json.specs.Written.{comma_if};
 
@@ -14,8 +15,9 @@ use std::alloc::{AllocError, Global};
 
 /// Appends the compact text of a value.
 ///
-/// Texts that need escapes are made in the scratch buffer. The members of each object are gathered in a list,
-/// since they are written in rising order of their names.
+/// Texts that stand in the line as they are printed are copied; those that need escapes are made in the scratch
+/// buffer. The members of each object are gathered in a list, since they are written in rising order of their
+/// names.
 #[cycle(append_value)]
 pub(crate) fn append_value(
     alloc: Global,
@@ -26,6 +28,9 @@ pub(crate) fn append_value(
     ensures ok { OnOk result (out.new.items ≡ out.old.items ++ value_text (flat_value value.entry)) }
     ensures kept { Extends out.old.items out.new.items }
 {
+    if let Some(text) = value.quoted() {
+        return out.extend_from_slice(text);
+    }
     match value.kind() {
         FlatKind::Null => append_null(out),
         FlatKind::Truth(truth) => append_truth(truth, out),
@@ -33,6 +38,27 @@ pub(crate) fn append_value(
         FlatKind::Text(text) => append_quoted(alloc, text, scratch, out),
         FlatKind::Array(items) => append_items(alloc, items, scratch, out),
         FlatKind::Object(members) => append_members(alloc, members, scratch, out),
+    }
+}
+
+/// Appends the name of a member, and the colon.
+fn append_name(
+    alloc: Global,
+    member: FlatMember<'_>,
+    scratch: &mut Vec<u8>,
+    out: &mut Vec<u8>,
+) -> Result<(), AllocError>
+    ensures ok { OnOk result (out.new.items
+        ≡ out.old.items ++ (quoted_text (chars member.entry.name.now) ++ 58 ∷ [])) }
+    ensures kept { Extends out.old.items out.new.items }
+{
+    match member.quoted_name() {
+        Some(name) => out.extend_from_slice(name),
+        None => {
+            append_quoted(alloc, member.name, scratch, out)?;
+            out.push(b':')?;
+            Ok(())
+        }
     }
 }
 
@@ -103,8 +129,7 @@ fn append_list(
     let mut later = false;
     for member in list {
         append_comma(later, out)?;
-        append_quoted(alloc, member.name, scratch, out)?;
-        out.push(b':')?;
+        append_name(alloc, *member, scratch, out)?;
         append_value(alloc, member.value, scratch, out)?;
         later = true;
     }

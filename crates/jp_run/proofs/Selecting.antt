@@ -13,6 +13,7 @@ use Rattle.jp_pattern.specs.Tests.{Tests}
 use Rattle.jp_output.specs.Layouts.{ending_byte}
 use Rattle.jp_output.specs.OutputLine.{ended_by, node_line, value_text}
 use Rattle.jp_output.specs.RawText.{raw_text}
+use Rattle.jp_output.specs.Rows.{Path, behind_tabs, field_at, row, row_line}
 use Rattle.jp_output.specs.UnquotedText.{unquoted_text}
 use Rattle.jp_answer.specs.Answer.{Answer, document_bytes, joined}
 use Rattle.jp_answer.specs.Faults.{fault_or, first_fault}
@@ -23,7 +24,7 @@ use Rattle.jp_output.specs.declared.layout.Layout.{Layout}
 use Rattle.jp_run.specs.Forms.{form_of}
 use Rattle.jp_run.specs.Selecting.{SelectsNothing}
 use Rattle.jp_run.specs.declared.output.Output.{Output}
-use Rattle.jp_run.specs.declared.output.Output.TheVariants.{Nodes, Values, Texts, Raw, Lines}
+use Rattle.jp_run.specs.declared.output.Output.TheVariants.{Nodes, Values, Texts, Raw, Rows, Lines}
 
 has_byte : (xs ys : List ℕ) (b : ℕ) → xs ++ b ∷ ys ≡ [] → ⊥
 has_byte [] ys b e = cc
@@ -43,6 +44,7 @@ says_nothing Nodes layout l = refl
 says_nothing Values layout l = refl
 says_nothing Texts layout l = refl
 says_nothing Raw layout l = refl
+says_nothing Rows layout l = refl
 says_nothing Lines layout l = refl
 
 values_some : (ending : ℕ) (text : Json → List ℕ) (ns : List Node)
@@ -51,6 +53,15 @@ values_some ending text [] e = refl
 values_some ending text (n ∷ ns) e =
     absurd (has_byte (text n.value) [] ending
     (front_none (ended_by ending text n) (flat_map (ended_by ending text) ns) e))
+
+row_some : (fs : List Path) (v : Json) → row fs v ≡ [] → ⊥
+row_some [] v e = has_byte [] [] 10 e
+row_some (f ∷ fs) v e =
+    has_byte (behind_tabs fs v) [] 10 (back_none (field_at v f) (behind_tabs fs v ++ 10 ∷ []) e)
+
+rows_some : (fs : List Path) (ns : List Node) → flat_map (row_line fs) ns ≡ [] → ns ≡ []
+rows_some fs [] e = refl
+rows_some fs (n ∷ ns) e = absurd (row_some fs n.value (front_none (row_line fs n) (flat_map (row_line fs) ns) e))
 
 nothing_said : (o : Output) (layout : Layout) (l : Line) (ns : List Node)
     → (form_of o layout).of_document l ns ≡ [] → ns ≡ []
@@ -62,6 +73,7 @@ nothing_said Nodes layout l (n ∷ ns) e =
 nothing_said Values layout l ns e = values_some (ending_byte layout.ending) value_text ns e
 nothing_said Texts layout l ns e = values_some (ending_byte layout.ending) unquoted_text ns e
 nothing_said Raw layout l ns e = values_some (ending_byte layout.ending) raw_text ns e
+nothing_said Rows layout l ns e = rows_some layout.fields ns e
 nothing_said Lines layout l [] e = refl
 nothing_said Lines layout l (n ∷ ns) e = absurd (has_byte l.1 [] 10 e)
 

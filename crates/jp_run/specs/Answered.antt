@@ -1,6 +1,6 @@
 -- What a query text is answered with over a byte stream, and what the answers of `src/` stand for.
 use Rattle.std.specs.Prelude.{◌≡◌, ℕ, List, [], ◌∷◌, ◌++◌, Option, None, Some}
-use Rattle.std.specs.Prelude.{option_map}
+use Rattle.std.specs.Prelude.{map, option_map}
 use Rattle.jp_doc.specs.Lines.{Line}
 use Rattle.jp_tree.specs.Tree.{Text, Query}
 use Rattle.jp_pattern.specs.Tests.{Tests, AreRight}
@@ -9,6 +9,7 @@ use Rattle.jp_answer.specs.Answer.{Answer, answer_by, stream_answer}
 use Rattle.jp_answer.specs.FilteredQuery.{FilteredQuery}
 use Rattle.jp_output.specs.Layouts.{laid_out}
 use Rattle.jp_output.specs.OutputForm.{OutputForm}
+use Rattle.jp_output.specs.Rows.{field_of}
 use Rattle.jp_output.specs.declared.layout.Layout.{Layout}
 use Rattle.jp_answer.specs.Policy.{policy, passed_in as lines_passed}
 use Rattle.jp_run.specs.AskedTexts.{AskedTexts, AreAcceptedIn}
@@ -27,9 +28,9 @@ head_behind (Some name) = name ++ 9 ∷ []
 abbrev pub head_of : Settings → List ℕ
 head_of s = head_behind (option_map (λ name. name.now) s.name)
 
--- and what stands behind each value besides
+-- and besides what stands behind each value, and what each row has
 abbrev pub layout_of : Settings → Layout
-layout_of s = laid_out (head_of s) s.ending
+layout_of s = laid_out (head_of s) s.ending (map field_of s.fields.now)
 
 -- how input is cut and numbered by the settings
 abbrev pub numbering_of : Settings → Numbering

@@ -10,6 +10,7 @@ ghost use Rattle.jp_tree.specs.Tree.{Text};
 ghost use Rattle.jp_pattern.specs.Tests.{Tests, AreRight};
 ghost use Rattle.jp_output.specs.Layouts.{laid_out};
 ghost use Rattle.jp_output.specs.OutputForm.{node_lines};
+ghost use Rattle.jp_output.specs.Rows.{Path};
 ghost use Rattle.jp_output.specs.declared.layout.Ending.{Ending};
 ghost use Rattle.jp_output.specs.declared.layout.Layout.{Layout};
 ghost use Rattle.jp_answer.specs.Answer.{Answer, answer_by};
@@ -32,13 +33,14 @@ ghost use Rattle.jp_run.specs.declared.output.Output.TheVariants.{Nodes};
 /// output lines, whether or not it keeps going, and whichever numbers it has; and where numbers are whole and
 /// it does not keep going, the answer that ends at the first faulty line.
 pub fn forms()
-    ensures stops { (text : Text) (ending : Ending) (input : List ℕ) (a : Answer)
-        → IsAnswerBy (manner (from_one Lines) (form_of Nodes (laid_out [] ending)) (policy Whole Stop))
+    ensures stops { (text : Text) (ending : Ending) (fields : List Path) (input : List ℕ) (a : Answer)
+        → IsAnswerBy (manner (from_one Lines) (form_of Nodes (laid_out [] ending fields)) (policy Whole Stop))
         (query_alone text) input a
         → IsAnswerTo text input a }
-    ensures nodes { (n : Numbers) (k : OnFault) (asked : AskedTexts) (ending : Ending) (input : List ℕ)
-        (a : Answer)
-        → IsAnswerBy (manner (from_one Lines) (form_of Nodes (laid_out [] ending)) (policy n k)) asked input a
+    ensures nodes { (n : Numbers) (k : OnFault) (asked : AskedTexts) (ending : Ending)
+        (fields : List Path) (input : List ℕ) (a : Answer)
+        → IsAnswerBy (manner (from_one Lines) (form_of Nodes (laid_out [] ending fields)) (policy n k))
+        asked input a
         → (q : FilteredQuery) × AreAcceptedIn n asked q
         × ((t : Tests) → AreRight t → answer_by node_lines (policy n k) t q (lines input) ≡ a) }
 {}

@@ -35,7 +35,7 @@ use crate::stream::Stream;
 use crate::turns::turn;
 use crate::writing::pass_on;
 use jp_answer::{Crew, Gate};
-use jp_output::{Form, InputLines, NodeLines, RawLines, TextLines, ValueLines};
+use jp_output::{Form, InputLines, NodeLines, RawLines, RowLines, TextLines, ValueLines};
 use jp_tree::QueryFault;
 use std::alloc::Global;
 use std::thread::Threads;
@@ -215,6 +215,7 @@ pub(crate) fn answer_in_form<R: Threads + Sync, S: Source<K>, K: Sink, G: Gate +
         Output::Values => answer_stream::<R, S, K, G, ValueLines>(job, buffers, source, sink),
         Output::Texts => answer_stream::<R, S, K, G, TextLines>(job, buffers, source, sink),
         Output::Raw => answer_stream::<R, S, K, G, RawLines>(job, buffers, source, sink),
+        Output::Rows => answer_stream::<R, S, K, G, RowLines>(job, buffers, source, sink),
         Output::Lines => answer_stream::<R, S, K, G, InputLines>(job, buffers, source, sink),
     }
 }

@@ -1,6 +1,6 @@
 //! How a run is cut up.
 
-ghost use Rattle.std.specs.Prelude.{◌≡◌, ◌+◌, ◌≤◌, ◌↔◌, None, Some, IsOk, IfOk, OnErr, IsErrOf};
+ghost use Rattle.std.specs.Prelude.{◌≡◌, ◌+◌, ◌≤◌, ◌↔◌, [], None, Some, IsOk, IfOk, OnErr, IsErrOf};
 ghost use Rattle.jp_run.specs.Limits.{max_lines};
 ghost use Rattle.jp_run.specs.Settings.{AreSettings, IsFirst};
 
@@ -10,12 +10,13 @@ use crate::limits::{MAX_DOCUMENTS, MAX_LINES, MAX_WORKERS};
 use crate::output::Output;
 use jp_answer::{LinePolicy, OnFault};
 use jp_number::Numbers;
-use jp_output::{Ending, Head, Layout};
+use jp_output::{Ending, Field, FieldList, Head, Layout};
 use std::alloc::{AllocError, Global};
 
 /// How many workers answer, how many documents are a piece, how many a batch, how the input is cut into
 /// documents, how these are numbered, which numbers there may be, what a faulty line does, which form the
-/// answer has, what ends its values, what name stands before its lines, and which filter chooses documents.
+/// answer has, what ends its values, what name stands before its lines, which fields its rows have, and which
+/// filter chooses documents.
 #[derive(Clone, Copy, Debug, PartialEq, Eq, Drop)]
 pub struct Settings<'n> {
     /// The number of workers, 1 to 64.
@@ -39,6 +40,8 @@ pub struct Settings<'n> {
     pub ending: Ending,
     /// The name before each line of nodes and each fault line, with a tab, in the form that has these.
     pub name: Option<&'n str>,
+    /// What each row has, in the form of rows.
+    pub fields: &'n [Field],
     /// The text of the filter of which the documents are true that are answered: what may stand behind `?` in
     /// `$[?FILTER]` (RFC 9535, 2.3.5), where both `@` and `$` are the whole document.
     pub filter: Option<&'n str>,
@@ -52,7 +55,7 @@ impl<'n> Settings<'n> {
 
     /// The settings, which take no memory. A document is a line, the first has the number 1, numbers are
     /// whole, and the answer ends at the first faulty line, and has a line for each node of every document,
-    /// with no name before it. Line feeds end values.
+    /// with no name before it. Line feeds end values, and rows have no fields.
     ///
     /// # Errors
     ///
@@ -67,6 +70,7 @@ impl<'n> Settings<'n> {
         ensures lines { IfOk result (λ s. s.cutting ≡ Cutting.Lines) }
         ensures first { IfOk result (λ s. s.before ≡ 0) }
         ensures no_name { IfOk result (λ s. s.name ≡ None) }
+        ensures no_fields { IfOk result (λ s. s.fields.now ≡ []) }
         ensures no_filter { IfOk result (λ s. s.filter ≡ None) }
         ensures in_range { IsOk result ↔ AreSettings workers piece batch }
         ensures fault { OnErr result (IsErrOf result RunFault.Settings) }
@@ -88,6 +92,7 @@ impl<'n> Settings<'n> {
             output: Output::Nodes,
             ending: Ending::LineFeed,
             name: None,
+            fields: &[],
             filter: None,
         })
     }
@@ -108,7 +113,8 @@ impl<'n> Settings<'n> {
             × (result.batch ≡ self.entry.batch) × (result.output ≡ self.entry.output)
             × (result.numbers ≡ self.entry.numbers) × (result.name ≡ self.entry.name)
             × (result.cutting ≡ self.entry.cutting) × (result.filter ≡ self.entry.filter)
-            × (result.before ≡ self.entry.before) × (result.ending ≡ self.entry.ending) }
+            × (result.before ≡ self.entry.before) × (result.ending ≡ self.entry.ending)
+            × (result.fields ≡ self.entry.fields) }
         ensures going { result.on_fault ≡ OnFault.KeepGoing }
     {
         Settings {
@@ -122,6 +128,7 @@ impl<'n> Settings<'n> {
             output: self.output,
             ending: self.ending,
             name: self.name,
+            fields: self.fields,
             filter: self.filter,
         }
     }
@@ -133,7 +140,8 @@ impl<'n> Settings<'n> {
             × (result.batch ≡ self.entry.batch) × (result.output ≡ self.entry.output)
             × (result.on_fault ≡ self.entry.on_fault) × (result.name ≡ self.entry.name)
             × (result.cutting ≡ self.entry.cutting) × (result.filter ≡ self.entry.filter)
-            × (result.before ≡ self.entry.before) × (result.ending ≡ self.entry.ending) }
+            × (result.before ≡ self.entry.before) × (result.ending ≡ self.entry.ending)
+            × (result.fields ≡ self.entry.fields) }
         ensures decimals { result.numbers ≡ Numbers.Decimals }
     {
         Settings {
@@ -147,6 +155,7 @@ impl<'n> Settings<'n> {
             output: self.output,
             ending: self.ending,
             name: self.name,
+            fields: self.fields,
             filter: self.filter,
         }
     }
@@ -157,7 +166,8 @@ impl<'n> Settings<'n> {
             × (result.batch ≡ self.entry.batch) × (result.on_fault ≡ self.entry.on_fault)
             × (result.numbers ≡ self.entry.numbers) × (result.name ≡ self.entry.name)
             × (result.cutting ≡ self.entry.cutting) × (result.filter ≡ self.entry.filter)
-            × (result.before ≡ self.entry.before) × (result.ending ≡ self.entry.ending) }
+            × (result.before ≡ self.entry.before) × (result.ending ≡ self.entry.ending)
+            × (result.fields ≡ self.entry.fields) }
         ensures output { result.output ≡ output }
     {
         Settings {
@@ -171,6 +181,7 @@ impl<'n> Settings<'n> {
             output,
             ending: self.ending,
             name: self.name,
+            fields: self.fields,
             filter: self.filter,
         }
     }
@@ -182,7 +193,8 @@ impl<'n> Settings<'n> {
             × (result.batch ≡ self.entry.batch) × (result.on_fault ≡ self.entry.on_fault)
             × (result.numbers ≡ self.entry.numbers) × (result.output ≡ self.entry.output)
             × (result.name ≡ self.entry.name) × (result.cutting ≡ self.entry.cutting)
-            × (result.before ≡ self.entry.before) × (result.filter ≡ self.entry.filter) }
+            × (result.before ≡ self.entry.before) × (result.filter ≡ self.entry.filter)
+            × (result.fields ≡ self.entry.fields) }
         ensures ending { result.ending ≡ ending }
     {
         Settings {
@@ -196,6 +208,7 @@ impl<'n> Settings<'n> {
             output: self.output,
             ending,
             name: self.name,
+            fields: self.fields,
             filter: self.filter,
         }
     }
@@ -207,7 +220,8 @@ impl<'n> Settings<'n> {
             × (result.batch ≡ self.entry.batch) × (result.on_fault ≡ self.entry.on_fault)
             × (result.numbers ≡ self.entry.numbers) × (result.output ≡ self.entry.output)
             × (result.cutting ≡ self.entry.cutting) × (result.filter ≡ self.entry.filter)
-            × (result.before ≡ self.entry.before) × (result.ending ≡ self.entry.ending) }
+            × (result.before ≡ self.entry.before) × (result.ending ≡ self.entry.ending)
+            × (result.fields ≡ self.entry.fields) }
         ensures name { result.name ≡ name.entry }
     {
         Settings {
@@ -221,6 +235,7 @@ impl<'n> Settings<'n> {
             output: self.output,
             ending: self.ending,
             name,
+            fields: self.fields,
             filter: self.filter,
         }
     }
@@ -231,7 +246,8 @@ impl<'n> Settings<'n> {
             × (result.batch ≡ self.entry.batch) × (result.on_fault ≡ self.entry.on_fault)
             × (result.numbers ≡ self.entry.numbers) × (result.output ≡ self.entry.output)
             × (result.name ≡ self.entry.name) × (result.filter ≡ self.entry.filter)
-            × (result.before ≡ self.entry.before) × (result.ending ≡ self.entry.ending) }
+            × (result.before ≡ self.entry.before) × (result.ending ≡ self.entry.ending)
+            × (result.fields ≡ self.entry.fields) }
         ensures cutting { result.cutting ≡ cutting }
     {
         Settings {
@@ -245,6 +261,7 @@ impl<'n> Settings<'n> {
             output: self.output,
             ending: self.ending,
             name: self.name,
+            fields: self.fields,
             filter: self.filter,
         }
     }
@@ -260,7 +277,8 @@ impl<'n> Settings<'n> {
             × (s.batch ≡ self.entry.batch) × (s.on_fault ≡ self.entry.on_fault)
             × (s.numbers ≡ self.entry.numbers) × (s.output ≡ self.entry.output)
             × (s.name ≡ self.entry.name) × (s.cutting ≡ self.entry.cutting)
-            × (s.filter ≡ self.entry.filter) × (s.ending ≡ self.entry.ending)) }
+            × (s.filter ≡ self.entry.filter) × (s.ending ≡ self.entry.ending)
+            × (s.fields ≡ self.entry.fields)) }
         ensures first { IfOk result (λ s. s.before + 1 ≡ first) }
         ensures in_range { IsOk result ↔ IsFirst first }
         ensures fault { OnErr result (IsErrOf result RunFault.Settings) }
@@ -279,6 +297,7 @@ impl<'n> Settings<'n> {
             output: self.output,
             ending: self.ending,
             name: self.name,
+            fields: self.fields,
             filter: self.filter,
         })
     }
@@ -290,7 +309,8 @@ impl<'n> Settings<'n> {
             × (result.batch ≡ self.entry.batch) × (result.on_fault ≡ self.entry.on_fault)
             × (result.numbers ≡ self.entry.numbers) × (result.output ≡ self.entry.output)
             × (result.name ≡ self.entry.name) × (result.cutting ≡ self.entry.cutting)
-            × (result.before ≡ self.entry.before) × (result.ending ≡ self.entry.ending) }
+            × (result.before ≡ self.entry.before) × (result.ending ≡ self.entry.ending)
+            × (result.fields ≡ self.entry.fields) }
         ensures filter { result.filter ≡ filter.entry }
     {
         Settings {
@@ -304,7 +324,35 @@ impl<'n> Settings<'n> {
             output: self.output,
             ending: self.ending,
             name: self.name,
+            fields: self.fields,
             filter,
+        }
+    }
+
+    /// The same settings, but for an answer whose rows have these fields, in the form of rows. It takes no
+    /// memory.
+    pub fn with_fields(self, fields: &'n [Field]) -> Settings<'n>
+        ensures same { (result.workers ≡ self.entry.workers) × (result.piece ≡ self.entry.piece)
+            × (result.batch ≡ self.entry.batch) × (result.on_fault ≡ self.entry.on_fault)
+            × (result.numbers ≡ self.entry.numbers) × (result.output ≡ self.entry.output)
+            × (result.name ≡ self.entry.name) × (result.cutting ≡ self.entry.cutting)
+            × (result.before ≡ self.entry.before) × (result.ending ≡ self.entry.ending)
+            × (result.filter ≡ self.entry.filter) }
+        ensures fields { result.fields ≡ fields.entry }
+    {
+        Settings {
+            workers: self.workers,
+            piece: self.piece,
+            batch: self.batch,
+            on_fault: self.on_fault,
+            numbers: self.numbers,
+            cutting: self.cutting,
+            before: self.before,
+            output: self.output,
+            ending: self.ending,
+            name: self.name,
+            fields,
+            filter: self.filter,
         }
     }
 
@@ -320,13 +368,14 @@ impl<'n> Settings<'n> {
     }
 
     /// What stands around what is written. `AllocError` if memory was refused: none is taken where there is
-    /// no name.
+    /// no name, and no field.
     pub(crate) fn layout(&self, alloc: Global) -> Result<Layout, AllocError>
         ensures { IfOk result (λ layout. layout ≡ layout_of self.now) }
     {
         Ok(Layout {
             head: self.head(alloc)?,
             ending: self.ending,
+            fields: FieldList::of(alloc, self.fields)?,
         })
     }
 }

@@ -3,7 +3,7 @@ use Rattle.std.specs.Prelude.{◌≡◌, ℕ, ◌+◌, ◌≤◌, List, ◌++◌
 use Rattle.json.specs.Tape.{node_token}
 use Rattle.json.specs.declared.tape.Node as tape
 use Rattle.json.specs.declared.tape.Node.TheVariants as taped
-use Rattle.jp_flat_nodes.specs.Nodes.{piece, token_at, link_of, IsWithin}
+use Rattle.jp_flat_nodes.specs.Nodes.{piece, token_at, link_of, source, IsWithin}
 use Rattle.jp_flat_nodes.specs.declared.node.FlatNode.{FlatNode}
 
 -- the text stands behind the others
@@ -35,6 +35,6 @@ EndsWithin most n = IsAtMost most (link_in n)
 pub record IsLaid (old new : List ℕ) (n : tape.Node) (own : FlatNode) : Type 0 where
   pub more : List ℕ
   pub behind : new ≡ old ++ more
-  pub token : token_at new own ≡ node_token n
+  pub token : token_at (source new new) own ≡ node_token n
   pub link : link_of own ≡ link_in n
-  pub within : IsWithin (length new) own
+  pub within : IsWithin (source new new) own

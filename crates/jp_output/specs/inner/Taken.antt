@@ -5,8 +5,9 @@ use Rattle.std.specs.List.{fold, flat_map}
 use Rattle.jp_doc.specs.Json.{Json}
 use Rattle.jp_doc.specs.Location.{Node}
 use Rattle.jp_output.specs.InputLine.{input_line, put_selected, end_line}
-use Rattle.jp_output.specs.OutputForm.{node_lines_behind, values_ended_by}
+use Rattle.jp_output.specs.OutputForm.{node_lines_behind, row_lines, values_ended_by}
 use Rattle.jp_output.specs.OutputLine.{node_line, put_line, ended_by, put_ended}
+use Rattle.jp_output.specs.Rows.{Path, row_line, put_row}
 
 -- the lines of nodes, each behind a head
 abbrev pub lines_behind : List ℕ → ℕ → List Node → List ℕ
@@ -73,6 +74,35 @@ module _ (text : Json → List ℕ) where
   values_written (ending, bytes) visited before ns b v =
       ap (λ (k : ℕ × List ℕ). k.1) (v ∙ values_fold ending bytes ns)
       ∙ ap (λ (k : List ℕ). k ++ flat_map (ended_by ending text) ns) b
+
+-- where each node gives a row
+rows_fold : (fs : List Path) (bytes : List ℕ) (ns : List Node)
+    → fold put_row (fs, bytes) ns ≡ (fs, bytes ++ flat_map (row_line fs) ns)
+rows_fold fs bytes [] = ap (λ bs. (fs, bs)) (sym (append-nil bytes))
+rows_fold fs bytes (n ∷ ns) =
+    rows_fold fs (bytes ++ row_line fs n) ns
+    ∙ ap (λ bs. (fs, bs)) (append_assoc bytes (row_line fs n) (flat_map (row_line fs) ns))
+
+-- the rows of one visitor behind those of another
+pub rows_append : (fs : List Path) (bytes : List ℕ) (more : List Path × List ℕ) (ns : List Node)
+    → more ≡ fold put_row (fs, []) ns
+    → (fs, bytes ++ more.1) ≡ fold put_row (fs, bytes) ns
+rows_append fs bytes more ns e =
+    ap (λ (k : List Path × List ℕ). (fs, bytes ++ k.1)) (e ∙ rows_fold fs [] ns)
+    ∙ sym (rows_fold fs bytes ns)
+
+-- the fields stay, and so does what the form says
+pub fields_stay : (begun visited : List Path × List ℕ) (ns : List Node) → visited ≡ fold put_row begun ns
+    → row_lines visited.0 ≡ row_lines begun.0
+fields_stay (fs, bytes) visited ns v =
+    ap (λ (k : List Path × List ℕ). row_lines k.0) (v ∙ rows_fold fs bytes ns)
+
+pub rows_written : (begun visited : List Path × List ℕ) (before : List ℕ) (ns : List Node)
+    → begun.1 ≡ before → visited ≡ fold put_row begun ns
+    → visited.1 ≡ before ++ flat_map (row_line begun.0) ns
+rows_written (fs, bytes) visited before ns b v =
+    ap (λ (k : List Path × List ℕ). k.1) (v ∙ rows_fold fs bytes ns)
+    ∙ ap (λ (k : List ℕ). k ++ flat_map (row_line fs) ns) b
 
 -- where the first node decides
 selected_stays : (bytes : List ℕ) (ns : List Node) → fold put_selected (true, bytes) ns ≡ (true, bytes)

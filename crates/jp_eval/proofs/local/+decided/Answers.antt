@@ -1,11 +1,11 @@
-use Rattle.std.proofs.Common.{◌≡◌, ◌<◌, length, not, true, false, is_some, option_map, Some, arith}
-use Rattle.std.proofs.Common.{sym, ap, ◌∙◌, rules}
+use Rattle.std.proofs.Common.{◌≡◌, ◌<◌, length, not, true, false, is_some, Some, arith}
+use Rattle.std.proofs.Common.{sym, ap, ◌∙◌}
 use Rattle.std.proofs.lemmas.List.{at_drop_all}
 use Rattle.std.proofs.lemmas.Option.{IfSome_then}
 use Rattle.std.proofs.lemmas.Result.{IfOk-weaker}
 use Rattle.std.specs.List.{list_any, list_all}
 use Rattle.jp_doc.specs.Json.{text}
-use Rattle.jp_doc.specs.Location.{Location, node}
+use Rattle.jp_doc.specs.Location.{node}
 use Rattle.jp_tree.specs.View.{text_of}
 use Rattle.jp_node.specs.Part.{part_value}
 use Rattle.jp_value.specs.Functions.{tested}

@@ -20,7 +20,7 @@ use Rattle.jp_node.specs.BoundsView.{bounds_value}
 use Rattle.jp_value.specs.Comparison.{compared}
 use Rattle.jp_value.specs.Functions.{tested, length_value}
 use Rattle.jp_value.specs.Functions.{exactly_one}
-use Rattle.jp_node.specs.ChildNodes.{listed_nodes, child_node}
+use Rattle.jp_node.specs.ChildNodes.{listed_nodes, child_node, structured_nodes}
 use Rattle.jp_node.specs.ChildRanges.{range_nodes}
 use Rattle.jp_node.specs.Nodes.{children, descendants, items_at, node_if_some}
 use Rattle.jp_value.specs.Literals.{written_value}
@@ -44,6 +44,7 @@ use Rattle.jp_node.proofs.Places.{slice_found}
 use Rattle.jp_eval.proofs.Uniformity.{true_along, false_along, kept_each}
 use Rattle.jp_node.specs.Selected.{index_places}
 use Rattle.jp_eval.proofs.WalkSteps.{back_up, here_further, link_further, over, applied, descended}
+use Rattle.jp_eval.proofs.WalkSteps.{descended_structured}
 use Rattle.jp_eval.proofs.WalkSteps.{any_further, any_found, all_further, all_found}
 use Rattle.jp_eval.proofs.WalkSteps.{sifted_in, sifted_out}
 use Rattle.jp_eval.proofs.Deciding.{some_of}
@@ -670,8 +671,25 @@ ask-returns-in_ok-answer-in-Distinct-clause-answer g t c =
     (ap (λ q. nodes_given base q want n) c.in-Distinct.is ∙ sym (nodes_distinct base n nodes want))
     ∙ c.of_distinct.ensures (nodes_given base nodes.value (wanted_inside want) n) inner
 
-pub go-returns-in_ok-apply-in-Descend-clause-found : goal.go-returns-in_ok-apply-in-Descend-clause-found
-go-returns-in_ok-apply-in-Descend-clause-found g t c =
+pub go-returns-then-list_nothing-clause-found : goal.go-returns-then-list_nothing-clause-found
+go-returns-then-list_nothing-clause-found g t c =
+    let base = base_of c.args.context.now in
+    let n = here c.args.path.now c.args.value in
+    let put = put_found g.V.Visit.put in
+    let xs = c.in-Descend.selectors.now in
+    let rest = c.in-Descend.rest.now in
+    let at = link_steps c.args.path.now in
+    let listed = range_nodes at c.all.result in
+    let same : structured_nodes listed ≡ structured_nodes (children n) =
+    ap structured_nodes (c.all.ensures.nodes at) ∙ c.in_ok-children-in-Descend.ensures.nodes at in
+    on_ok_weaker c.each_of.result (λ e. rw c.in-Descend.is (descended_structured put base xs
+    rest n listed _ _ _ c.in_ok-apply-in-Descend.ensures.found same
+    (rw (c.in_ok-apply-in-Descend.ensures.path, c.in-Descend.is) at e)))
+    c.each_of.ensures.found
+
+pub go-returns-in_ok-apply-in-Descend-2-clause-found
+    : goal.go-returns-in_ok-apply-in-Descend-2-clause-found
+go-returns-in_ok-apply-in-Descend-2-clause-found g t c =
     let base = base_of c.args.context.now in
     let n = here c.args.path.now c.args.value in
     let put = put_found g.V.Visit.put in
@@ -679,11 +697,11 @@ go-returns-in_ok-apply-in-Descend-clause-found g t c =
     let rest = c.in-Descend.rest.now in
     let at = link_steps c.args.path.now in
     let range : range_nodes at c.all-range.result ≡ children n =
-    c.all-range.ensures.nodes at ∙ c.in_ok-children-in-Descend.ensures.nodes at in
-    on_ok_weaker c.each_of.result (λ e. rw c.in-Descend.is (descended put base xs
-    rest n _ _ _ c.in_ok-apply-in-Descend.ensures.found
-    (rw range at (rw (c.in_ok-apply-in-Descend.ensures.path, c.in-Descend.is) at e))))
-    c.each_of.ensures.found
+    c.all-range.ensures.nodes at ∙ c.in_ok-children-in-Descend-2.ensures.nodes at in
+    on_ok_weaker c.each_of-in-Descend.result (λ e. rw c.in-Descend.is (descended put base xs
+    rest n _ _ _ c.in_ok-apply-in-Descend-2.ensures.found
+    (rw range at (rw (c.in_ok-apply-in-Descend-2.ensures.path, c.in-Descend.is) at e))))
+    c.each_of-in-Descend.ensures.found
 
 pub give-returns-in-Some-clause-value : goal.give-returns-in-Some-clause-value
 give-returns-in-Some-clause-value g t c =

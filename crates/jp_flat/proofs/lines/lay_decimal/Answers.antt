@@ -7,7 +7,7 @@ use Rattle.jp_doc.specs.declared.fault.DocFault.TheVariants.{LongNumber}
 use Rattle.jp_flat.specs.inner.Decimals.{whole_fault}
 use Rattle.jp_flat.specs.inner.FlatAnswers.{told_over}
 use Rattle.jp_flat.specs.inner.Rows.{pass_fault}
-use Rattle.jp_flat_nodes.specs.Nodes.{AreLinked}
+use Rattle.jp_flat_nodes.specs.Nodes.{AreLinked, source}
 use Rattle.jp_flat.proofs.Decimal.{fault_of_pass, over_of_pass, refused}
 use Rattle.jp_flat.proofs.FewTokens.{few_tokens}
 use Rattle.jp_flat.proofs.ReadNodes.{laid_grammar}
@@ -51,8 +51,9 @@ returns-in_ok-lay-in-Ok c =
     let same = c.nodes-in-Ok.ensures.tokens in
     let none : pass_fault tape ≡ None = ap pass_fault (sym c.nodes.ensures.tokens)
     ∙ sym c.fault_in.ensures ∙ c.in-None.is in
-    laid_grammar c.args.text.now c.lay.new.texts.items c.lay.new.nodes.items tape read.0 read.1
-    (laid.tokens ∙ same) (subst (λ ts. AreLinked ts c.lay.new.nodes.items) same laid.linked) laid.within
+    laid_grammar c.args.text.now (source c.lay.new.out.texts.items c.lay.new.out.texts.items)
+    c.lay.new.out.nodes.items tape read.0 read.1
+    (laid.tokens ∙ same) (subst (λ ts. AreLinked ts c.lay.new.out.nodes.items) same laid.linked) laid.within
     c.utf8.text c.requires none
 
 pub returns-in-Err : goal.returns-in-Err

@@ -5,7 +5,7 @@ use Rattle.json.specs.Tape.{node_token}
 use Rattle.jp_flat.specs.inner.Decimals.{whole_fault}
 use Rattle.jp_flat.specs.inner.FlatAnswers.{told}
 use Rattle.jp_flat.specs.inner.Plain.{is_plain_from}
-use Rattle.jp_flat_nodes.specs.Nodes.{AreLinked}
+use Rattle.jp_flat_nodes.specs.Nodes.{AreLinked, source}
 use Rattle.jp_flat.proofs.FewTokens.{few_tokens}
 use Rattle.jp_flat.proofs.ReadNodes.{laid_whole}
 use Rattle.jp_flat.proofs.WholeFaults.{answer_of_nodes, refused_line}
@@ -39,8 +39,9 @@ returns-in_ok-lay-in-Ok c =
     let same = c.nodes-in-Ok.ensures.tokens in
     let passes : is_plain_from 0 (map node_token c.nodes.result.now) ≡ true = grind arith in
     let plain : is_plain_from 0 tape ≡ true = ap (is_plain_from 0) (sym c.nodes.ensures.tokens) ∙ passes in
-    laid_whole c.args.text.now c.lay.new.texts.items c.lay.new.nodes.items tape read.0 read.1
-    (laid.tokens ∙ same) (subst (λ ts. AreLinked ts c.lay.new.nodes.items) same laid.linked) laid.within
+    laid_whole c.args.text.now (source c.lay.new.out.texts.items c.lay.new.out.texts.items)
+    c.lay.new.out.nodes.items tape read.0 read.1
+    (laid.tokens ∙ same) (subst (λ ts. AreLinked ts c.lay.new.out.nodes.items) same laid.linked) laid.within
     c.utf8.text c.requires plain
 
 pub returns-in-Err : goal.returns-in-Err

@@ -1,4 +1,5 @@
 use Rattle.std.proofs.Common.{◌≡◌, ◌∙◌, ◌-◌, ◌+◌, ◌<◌, ◌==◌, false, get_or, refl, sym, ap, subst, arith}
+use Rattle.jp_flat_nodes.specs.Nodes.{source}
 use Rattle.jp_flat_nodes.specs.inner.Reads.{Reads}
 use Rattle.jp_flat_nodes.proofs.Fractions.{negative_number}
 use Rattle.jp_flat_nodes.proofs.OneNode.{number_leaf}
@@ -6,7 +7,7 @@ use Rattle.jp_flat_nodes.proofs.numbers.negative.Goals as goal
 use Rattle.jp_flat_nodes.proofs.numbers.negative.Goals.{then-not-decimals, else-not-decimals}
 
 pub returns : goal.returns
-returns c h =
+returns c h all more =
     let line = c.args.line.now in
     let at = c.args.at in
     let d = c.args.decimals in
@@ -20,6 +21,9 @@ returns c h =
           ∙ c.if-byte_at-eq48.false
       | else-not-decimals w ↦ absurd (grind arith)
     ] in
-    subst (λ e. Reads line d at e c.args.depth c.args.nodes.now.items c.put.new.nodes.items) (sym put.0)
-    (number_leaf line d at end (end - at) c.args.depth _ _ later is.inside
-    (negative_number line d at end (omega arith) c.requires.2 is some) refl put.1)
+    let src = source line all in (
+      more,
+      subst (λ e. Reads src d at e c.args.depth c.args.out.now.nodes.items c.put.new.nodes.items) (sym put.0)
+          (number_leaf src d at end (end - at) c.args.depth _ _ later is.inside
+          (negative_number line d at end (omega arith) c.requires.2 is some) refl put.1),
+    )

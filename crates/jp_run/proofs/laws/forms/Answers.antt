@@ -10,7 +10,7 @@ use Rattle.jp_run.proofs.laws.forms.Goals as goal
 
 -- where no filter is asked, what the texts spell has none
 pub returns-clause-stops : goal.returns-clause-stops
-returns-clause-stops c = λ text ending input a h. (
+returns-clause-stops c = λ text ending fields input a h. (
   h.0.query,
   h.1.query,
   λ t right. ap (λ (q : FilteredQuery). answer_by node_lines (policy Whole Stop) t q (lines input))

@@ -6,7 +6,7 @@ use Rattle.std.specs.Coded.{Coded-set}
 use Rattle.json.specs.Json.{value}
 use Rattle.json.specs.Tape.{Passes}
 use Rattle.json.specs.Token.{tokens_code}
-use Rattle.jp_flat.specs.Document.{document_tokens}
+use Rattle.jp_flat.specs.Document.{document_source, document_tokens}
 use Rattle.jp_flat.specs.inner.Held.{IsHeld}
 use Rattle.jp_flat.specs.declared.document.FlatDocument.{FlatDocument}
 use Rattle.jp_flat_nodes.specs.Nodes.{link_of}
@@ -15,7 +15,7 @@ use Rattle.jp_flat.proofs.Shapes.{here, one_token, by_link}
 use Rattle.jp_flat.proofs.document.FlatDocument.after.Goals as goal
 
 passes : (d : FlatDocument) (at end : ℕ) → at < length d.nodes.now
-    → link_of (get_or d.nodes.now at (Object 0)) ≡ Some end → IsHeld d.text.now d.nodes.now
+    → link_of (get_or d.nodes.now at (Object 0)) ≡ Some end → IsHeld (document_source d) d.nodes.now
     → Passes (document_tokens d) at end
 passes d at end inside link held =
     held.linked at end (ap link_of (get_or_default d.nodes.now at Null (Object 0) inside) ∙ link)
@@ -24,9 +24,9 @@ pub returns-in_default : goal.returns-in_default
 returns-in_default c =
     let d = c.args.self.now in
     record {
-      value = λ depth j rest e. one_token d.text.now _ _ j depth rest (λ a z. grind arith)
+      value = λ depth j rest e. one_token (document_source d) _ _ j depth rest (λ a z. grind arith)
           (λ a z. grind arith)
-          (ap (value depth) (sym (here d.text.now d.nodes.now c.args.at (Object 0) c.requires)) ∙ e);
+          (ap (value depth) (sym (here (document_source d) d.nodes.now c.args.at (Object 0) c.requires)) ∙ e);
       later = omega arith;
     }
 

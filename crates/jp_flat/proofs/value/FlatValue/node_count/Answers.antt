@@ -1,4 +1,5 @@
 use Rattle.std.proofs.Common.{arith}
+use Rattle.jp_flat.specs.Document.{document_source}
 use Rattle.jp_flat.proofs.Kept.{short_by_nodes}
 use Rattle.jp_flat.proofs.Shapes.{within}
 use Rattle.jp_flat.proofs.value.FlatValue.node_count.Goals as goal
@@ -6,7 +7,7 @@ use Rattle.jp_flat.proofs.value.FlatValue.node_count.Goals as goal
 pub after-requires : goal.after-requires
 after-requires c =
     let d = c.args.self.document.now in
-    within d.text.now d.nodes.now c.args.self.at c.args.self.flat
+    within (document_source d) d.nodes.now c.args.self.at c.args.self.flat
 
 pub returns : goal.returns
 returns c n few =
