@@ -7,9 +7,9 @@ fn texts_of(alloc: Global, line: &[u8]) -> Option<usize> {
     if line.len() > 1_000_000 || !read_line(line, &mut read) {
         return None;
     }
-    let texts = read
-        .nodes
-        .iter()
-        .filter(|node| matches!(node, FlatNode::Text(..) | FlatNode::Escaped(..)));
+    let texts = read.nodes.iter().filter(|node| matches!(
+        node,
+        FlatNode::Text(..) | FlatNode::Escaped(..)
+    ));
     Some(texts.count())
 }

@@ -43,6 +43,7 @@ pub(crate) fn text(line: &[u8], at: usize, out: &mut FlatNodes, depth: u32, deci
 
 /// The same of one that may have escapes.
 // Most texts have none: so this stands apart.
+#[cold]
 #[inline(never)]
 fn escaped_text(line: &[u8], at: usize, out: &mut FlatNodes, depth: u32, decimals: bool) -> usize
     requires { (length line.now < 2 ^ 32) × (at < length line.now) × (get_or line.now at 0 ≡ 34) }
@@ -82,6 +83,7 @@ pub(crate) fn key(line: &[u8], at: usize, out: &mut FlatNodes) -> usize
 }
 
 /// The same of one that may have escapes.
+#[cold]
 #[inline(never)]
 fn escaped_key(line: &[u8], at: usize, out: &mut FlatNodes) -> usize
     requires { (length line.now < 2 ^ 32) × (at < length line.now) × (get_or line.now at 0 ≡ 34) }

@@ -14,9 +14,8 @@ fn piece(text: &[u8], from: u32, count: u32) -> Option<&[u8]> {
 /// The bytes that a node is told by, of a line and of the texts beside it.
 fn bytes_of<'t>(node: FlatNode, line: &'t [u8], texts: &'t [u8]) -> Option<&'t [u8]> {
     match node {
-        FlatNode::Key(from, count) | FlatNode::Text(from, count) | FlatNode::Number(from, count) => {
-            piece(line, from, count)
-        }
+        FlatNode::Key(from, count) | FlatNode::Text(from, count) | FlatNode::Number(from, count) =>
+            { piece(line, from, count) }
         FlatNode::EscapedKey(from, count) | FlatNode::Escaped(from, count) => {
             piece(texts, from, count)
         }
@@ -28,7 +27,10 @@ fn bytes_of<'t>(node: FlatNode, line: &'t [u8], texts: &'t [u8]) -> Option<&'t [
 fn is_between_quotes(node: FlatNode, line: &[u8]) -> bool {
     match node {
         FlatNode::Key(from, count) | FlatNode::Text(from, count) => {
-            let quotes = (piece(line, from.wrapping_sub(1), 1), piece(line, from.wrapping_add(count), 1));
+            let quotes = (
+                piece(line, from.wrapping_sub(1), 1),
+                piece(line, from.wrapping_add(count), 1),
+            );
             quotes == (Some(b"\"".as_slice()), Some(b"\"".as_slice()))
         }
         _ => true,
