@@ -153,6 +153,8 @@ fn all_decided<'v>(
 }
 
 /// The first node of a query of names and indexes, if there is one, and nothing of any other query.
+// As `followed`.
+#[inline(always)]
 fn first_of<'v>(nodes: &'v Nodes, value: Part<'v>) -> Option<Option<Part<'v>>>
     ensures { IfSome result (λ found. (base : Base) (at : Location) → first_value
         (nodes_given base nodes.now want.First (node at (part_value value.entry)))
@@ -166,6 +168,8 @@ fn first_of<'v>(nodes: &'v Nodes, value: Part<'v>) -> Option<Option<Part<'v>>>
 }
 
 /// Whether the comparison is true.
+// As `followed`.
+#[inline(always)]
 fn compare<'v>(
     context: &Context<'v>,
     left: &'v Giver,
@@ -189,6 +193,8 @@ fn compare<'v>(
 }
 
 /// Whether the comparison of what a query finds with a literal is true.
+// As `followed`.
+#[inline(always)]
 fn compare_found<'v>(
     context: &Context<'v>,
     nodes: &'v Nodes,

@@ -16,6 +16,8 @@ use jp_found::Aggregate;
 use jp_node::{Part, place_in};
 
 /// The child that a name or an index selects, if there is one; and nothing where the selector is no such one.
+// As `followed`.
+#[inline(always)]
 fn child_by<'v>(selector: &'v CompiledSelector, value: Part<'v>) -> Option<Option<Part<'v>>>
     ensures { IfSome result (λ child. (base : Base) (at : Location)
         → AreOne (picked base selector.now (node at (part_value value.entry)))
@@ -42,6 +44,8 @@ fn item_at<'v>(place: Option<u32>, value: Part<'v>) -> Option<Part<'v>>
 }
 
 /// What a segment of one name or index leads to.
+// As `followed`.
+#[inline(always)]
 fn step_by<'v>(segment: &'v CompiledSegment, value: Part<'v>) -> Option<Option<Part<'v>>>
     ensures { IfSome result (λ child. (base : Base) (at : Location)
         → AreOne (reached base (segment.now ∷ []) (node at (part_value value.entry) ∷ []))
@@ -58,6 +62,8 @@ fn step_by<'v>(segment: &'v CompiledSegment, value: Part<'v>) -> Option<Option<P
 
 /// What segments of one name or index each lead to, one after another, if there is a value; and nothing where
 /// one of them is no such segment.
+// Filters ask it of each child: handed out by calls, an option of an option would go by memory.
+#[inline(always)]
 pub(crate) fn followed<'v>(
     segments: &'v [CompiledSegment],
     value: Part<'v>,

@@ -31,6 +31,15 @@ pub(crate) fn order(left: &str, right: &str) -> Ordering
     left.cmp(right)
 }
 
+/// Whether two names are the same, byte by byte.
+// A call, since few names come to it: within a loop over members it would take what that has of registers.
+#[inline(never)]
+fn is_same_text(left: &str, right: &str) -> bool
+    ensures { result ≡ text_eq (chars left.now) (chars right.now) }
+{
+    left == right
+}
+
 /// Whether two names are the same.
 // Most names differ in their length or in their first byte, which is told without a call.
 #[inline(always)]
@@ -45,7 +54,7 @@ pub(crate) fn is_same(left: &str, right: &str) -> bool
             return false;
         }
     }
-    left == right
+    is_same_text(left, right)
 }
 
 /// Whether a name is above the one before it, if there is one.

@@ -25,6 +25,8 @@ pub(crate) enum NamePlace {
 }
 
 /// Where the name belongs. Names that come in order belong behind all, so it is looked for from there.
+// A part of each loop over members: by a call the place would go by memory.
+#[inline(always)]
 pub(crate) fn place_of(list: &[FlatMember<'_>], name: &str) -> NamePlace
     requires { NamesRise (gathered list.now) }
     ensures { IsPlace result (chars name.now) list.now }
@@ -43,6 +45,8 @@ pub(crate) fn place_of(list: &[FlatMember<'_>], name: &str) -> NamePlace
 /// Puts a member where its name belongs, and in the place of one that has it.
 ///
 /// `AllocError` if a growth was refused.
+// As `place_of`.
+#[inline(always)]
 pub(crate) fn put<'d>(
     member: FlatMember<'d>,
     list: &mut Vec<FlatMember<'d>>,

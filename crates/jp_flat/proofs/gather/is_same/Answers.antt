@@ -1,6 +1,5 @@
 use Rattle.std.proofs.Common.{sym, ap, ◌∙◌, length}
 use Rattle.std.specs.List.{slice_get}
-use Rattle.jp_doc.proofs.TextLaws.{text_eq-bytes}
 use Rattle.jp_flat.proofs.FirstBytes.{apart, first_apart}
 use Rattle.jp_flat.proofs.gather.is_same.Goals as goal
 
@@ -16,6 +15,3 @@ returns-then-first-second c =
     (c.in-Some-Some.ensures.value ∙ ap (λ xs. slice_get xs 0) c.as_bytes.ensures.value)
     (c.in-Some-Some.ensures'.value ∙ ap (λ xs. slice_get xs 0) c.as_bytes-2.ensures.value)
     c.if-first-second.true))
-
-pub returns : goal.returns
-returns c = c.eq.ensures ∙ sym (text_eq-bytes c.args.left.now c.args.right.now c.utf8.left c.utf8.right)
