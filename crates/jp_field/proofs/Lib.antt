@@ -1,2 +1,3 @@
-pub mod Segments
 pub mod Nodelists
+pub mod OneField
+pub mod Segments

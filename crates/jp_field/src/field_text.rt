@@ -1,11 +1,11 @@
 //! The field that a text spells.
 
-ghost use Rattle.std.specs.Prelude.{◌≡◌, ◌≢◌, ◌∷◌, IfOk, IfErr, MatchOption};
+ghost use Rattle.std.specs.Prelude.{◌≡◌, ◌≢◌, ◌∷◌, List, IfOk, IfErr, IfSome, IsNone, MatchOption, map};
 ghost use Rattle.std.specs.Str.{chars};
 ghost use Rattle.jp_tree.specs.Tree.{Text};
 ghost use Rattle.jp_tree.specs.View.{text_of};
-ghost use Rattle.jp_output.specs.Rows.{field_of};
-ghost use Rattle.jp_field.specs.FieldText.{IsFieldRefused, IsFieldText};
+ghost use Rattle.jp_output.specs.Rows.{Path, field_of};
+ghost use Rattle.jp_field.specs.FieldText.{AreFields, IsFieldRefused, IsFieldText};
 
 use crate::steps::field_of_segments;
 use jp_check::plan_in;
@@ -35,6 +35,25 @@ pub fn field_in(alloc: Global, text: &str) -> Result<Field, QueryFault>
         Some(field) => Ok(field),
         None => Err(QueryFault::IllTyped),
     }
+}
+
+/// The fields that these texts spell, in their order; none where one of them is refused. `AllocError` if a
+/// growth of memory was refused.
+pub fn fields_in(alloc: Global, texts: &[&str]) -> Result<Option<Vec<Field>>, AllocError>
+    ensures some { IfOk result (λ o. IfSome o
+        (λ fields. AreFields (map (λ t. t.now) texts.now) (map field_of fields.items))) }
+    ensures none { IfOk result (λ o. IsNone o
+        → (fields : List Path) → AreFields (map (λ t. t.now) texts.now) fields → ⊥) }
+{
+    let mut fields = Vec::with_capacity(alloc, texts.len())?;
+    for text in texts {
+        match field_in(alloc, text) {
+            Ok(field) => fields.push(field)?,
+            Err(QueryFault::Memory) => return Err(AllocError),
+            Err(_) => return Ok(None),
+        }
+    }
+    Ok(Some(fields))
 }
 
 /// The text with `$` in the place of `@`, where it begins with that. `AllocError` if memory was refused.
