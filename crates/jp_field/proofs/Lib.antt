@@ -1,3 +1,4 @@
 pub mod Nodelists
 pub mod OneField
+pub mod RootText
 pub mod Segments

@@ -59,11 +59,17 @@ one_each (t ∷ ts) fs gs a b =
 abbrev pub now : Bor (List ℕ) → List ℕ
 now t = t.now
 
-pub each_is : (ts : List (Bor (List ℕ))) (fs : List Path) (i : ℕ) (t : Bor (List ℕ)) → AreFields (map now ts) fs
-    → i < length ts → t ≡ get_or ts i t → (f : Path) × IsFieldText (chars t.now) f
-each_is [] fs i t a h is = absurd (omega (arith, h))
-each_is (u ∷ ts) fs zero t a h is = (a.0, subst (λ (x : Bor (List ℕ)). IsFieldText (chars x.now) a.0) (sym is) a.3)
-each_is (u ∷ ts) fs (suc i) t a h is = each_is ts a.1 i t a.4 (omega (arith, h)) is
+pub each_is : (ts : List (Bor (List ℕ))) (fs : List Path) (i : ℕ) (d : Bor (List ℕ)) → AreFields (map now ts) fs
+    → i < length ts → (f : Path) × IsFieldText (chars (get_or ts i d).now) f
+each_is [] fs i d a h = absurd (omega (arith, h))
+each_is (u ∷ ts) fs zero d a h = (a.0, a.3)
+each_is (u ∷ ts) fs (suc i) d a h = each_is ts a.1 i d a.4 (omega (arith, h))
+
+-- what stands for an item past the end does not matter
+same_item : (ts : List (Bor (List ℕ))) (i : ℕ) (d e : Bor (List ℕ)) → i < length ts → get_or ts i d ≡ get_or ts i e
+same_item [] i d e h = absurd (omega (arith, h))
+same_item (u ∷ ts) zero d e h = refl
+same_item (u ∷ ts) (suc i) d e h = same_item ts i d e (omega (arith, h))
 
 -- where the texts that are left are fields, all are these behind those that were read
 abbrev pub Reads : List (Bor (List ℕ)) → ℕ → List Field → Type 0
@@ -71,9 +77,12 @@ Reads ts i done = (fs : List Path) → AreFields (map now (drop i ts)) fs
     → AreFields (map now ts) (map field_of done ++ fs)
 
 module _ (ts : List (Bor (List ℕ))) (i : ℕ) where
-  pub read_more : (t : Bor (List ℕ)) (done more : List Field) (f : Field) → i < length ts → t ≡ get_or ts i t
-      → more ≡ done ++ f ∷ [] → IsFieldText (chars t.now) (field_of f) → Reads ts i done → Reads ts (i + 1) more
-  read_more t done more f h is put field reads fs a =
+  pub read_more : (d : Bor (List ℕ)) (done more : List Field) (f : Field) → i < length ts
+      → more ≡ done ++ f ∷ [] → IsFieldText (chars (get_or ts i d).now) (field_of f) → Reads ts i done
+      → Reads ts (i + 1) more
+  read_more d done more f h put field reads fs a =
+      let t = get_or ts i d in
+      let is : t ≡ get_or ts i t = same_item ts i d t h in
       let here : AreFields (map now (drop i ts)) (field_of f ∷ fs) = subst (λ (u : List (List ℕ)). AreFields u (field_of f ∷ fs))
       (sym (at_drop_more (map now) ts i t h ∙ ap (λ x. map now (x ∷ drop (i + 1) ts)) (sym is)))
       (field_of f, fs, refl, field, a) in

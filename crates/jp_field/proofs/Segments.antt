@@ -1,5 +1,5 @@
 -- The steps of compiled segments.
-use Rattle.std.proofs.Common.{◌≡◌, ◌<◌, ◌≤◌, ◌+◌, ◌⊎◌, ℕ, true, false, List, [], ◌∷◌, ◌++◌, length, get_or, drop, map}
+use Rattle.std.proofs.Common.{◌≡◌, ◌<◌, ◌≤◌, ◌+◌, ◌⊎◌, inl, inr, ℕ, true, false, List, [], ◌∷◌, ◌++◌, length, get_or, drop, map}
 use Rattle.std.proofs.Common.{Option, Some, None, option_map, refl, sym, ap, ◌∙◌, arith, append_assoc, append-nil, rules}
 use Rattle.std.proofs.lemmas.List.{at_drop_more, at_drop_all, map-append}
 use Rattle.jp_tree.specs.Tree as tree

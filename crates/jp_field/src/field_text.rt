@@ -47,13 +47,24 @@ pub fn fields_in(alloc: Global, texts: &[&str]) -> Result<Option<Vec<Field>>, Al
 {
     let mut fields = Vec::with_capacity(alloc, texts.len())?;
     for text in texts {
-        match field_in(alloc, text) {
+        match read(alloc, text)? {
             Ok(field) => fields.push(field)?,
-            Err(QueryFault::Memory) => return Err(AllocError),
             Err(_) => return Ok(None),
         }
     }
     Ok(Some(fields))
+}
+
+/// The field that a text spells, or its refusal. `AllocError` if a growth of memory was refused.
+fn read(alloc: Global, text: &str) -> Result<Result<Field, QueryFault>, AllocError>
+    ensures ok { IfOk result (λ r. IfOk r (λ f. IsFieldText (chars text.now) (field_of f))) }
+    ensures refused { IfOk result (λ r. IfErr r (IsFieldRefused (chars text.now))) }
+{
+    match field_in(alloc, text) {
+        Ok(field) => Ok(Ok(field)),
+        Err(QueryFault::Memory) => Err(AllocError),
+        Err(fault) => Ok(Err(fault)),
+    }
 }
 
 /// The text with `$` in the place of `@`, where it begins with that. `AllocError` if memory was refused.

@@ -1,4 +1,4 @@
-use Rattle.std.proofs.Common.{◌≡◌, ◌<◌, length, rules, arith, sym, ap, ◌∙◌, [], List, option_map}
+use Rattle.std.proofs.Common.{◌<◌, length, rules, arith, sym, ap, ◌∙◌, List, option_map}
 use Rattle.jp_compiled.specs.Parts.{segments_in}
 use Rattle.jp_output.specs.Rows.{step_of}
 use Rattle.jp_output.specs.declared.field.FieldStep.{FieldStep}

@@ -1,4 +1,4 @@
-use Rattle.std.proofs.Common.{rules, arith}
+use Rattle.std.proofs.Common.{rules, arith, inl, inr}
 use Rattle.std.proofs.lemmas.Result.{IfOk-weaker}
 use Rattle.jp_field.proofs.Segments.{step_of_one, step_of_others}
 use Rattle.jp_field.proofs.steps.step_of_segment.Goals as goal
@@ -15,6 +15,6 @@ pub returns-in_default : goal.returns-in_default
 returns-in_default c = λ roots. step_of_others roots c.args.segment.now c.as_slice.result.now c.if-segment.false
     c.as_slice.ensures.value
     (elim c.in_default.branch [
-      | in_default-via-then-as_slice-lt1 w ↦ inl (?)
-      | in_default-via-else-as_slice-lt1+else-this-lt2 w ↦ inr (?)
+      | in_default-via-then-as_slice-lt1 w ↦ inl (search (rules, arith))
+      | in_default-via-else-as_slice-lt1+else-this-lt2 w ↦ inr (search (rules, arith))
     ])
