@@ -13,13 +13,13 @@ _jp() {
             mapfile -t COMPREPLY < <(compgen -W 'nodes values texts raw lines' -- "$word")
             return
             ;;
-        --where | --quote | --workers | --piece | --batch | --first)
+        --field | --where | --quote | --workers | --piece | --batch | --first)
             compopt +o default
             return
             ;;
     esac
     if [[ $word != -* ]]; then return; fi
-    local options='--output --where --workers --piece --batch --first --check --decimals --keep-going'
+    local options='--output --field --where --workers --piece --batch --first --check --decimals --keep-going'
     options+=' --explain --exit-status --documents --with-filename --null --quote --help --version'
     options+=' -o -d -k -e -0 -h -V'
     mapfile -t COMPREPLY < <(compgen -W "$options" -- "$word")

@@ -7,7 +7,7 @@ use crate::tasks::{
 };
 use jp_answer::{Answerer, Asked, Block, Crew, Gate, LinePolicy, OpenGate, Ring, beside_workers};
 use jp_check::plan;
-use jp_output::{Ending, Head, Layout, NodeLines};
+use jp_output::{Ending, FieldList, Head, Layout, NodeLines};
 use std::alloc::Global;
 use std::sync::Arc;
 use std::sync::atomic::AtomicU64;
@@ -150,6 +150,7 @@ fn ran<R: Threads + Sync>(rt: &R, alloc: Global, way: Way) -> Option<u64> {
     let layout = Layout {
         head,
         ending: Ending::LineFeed,
+        fields: FieldList::none(),
     };
     ran_of(
         rt,

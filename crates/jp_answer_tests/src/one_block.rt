@@ -5,7 +5,7 @@ use jp_answer::{Answerer, Asked, Block, Crew, DocStop, LinePolicy, OnFault, Open
 use jp_check::plan;
 use jp_doc::DocFault;
 use jp_number::Numbers;
-use jp_output::{Ending, Head, Layout, NodeLines};
+use jp_output::{Ending, FieldList, Head, Layout, NodeLines};
 use std::alloc::Global;
 use std::thread::Threads;
 
@@ -99,6 +99,7 @@ fn is_filled_named<R: Threads + Sync>(
     let layout = Layout {
         head,
         ending: Ending::LineFeed,
+        fields: FieldList::none(),
     };
     is_filled_in(rt, alloc, &layout, going_on(), wanted)
 }

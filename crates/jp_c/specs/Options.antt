@@ -41,7 +41,7 @@ AreOutOfRange o = (form_named o.form ≡ None) ⊎ (max_lines < o.first)
 -- the manner that they ask for, in this form: no name stands before a line
 abbrev pub manner_by : Options → Output → Manner
 manner_by o output = manner (record { cutting = cutting_by o.documents; before = o.first - 1 })
-    (form_of output (laid_out [] LineFeed)) (policy (numbers_by o.decimals) (on_fault_by o.keep_going))
+    (form_of output (laid_out [] LineFeed [])) (policy (numbers_by o.decimals) (on_fault_by o.keep_going))
 
 -- the filter that they ask for, of these bytes, if there is one
 abbrev pub filter_by : ℕ → List ℕ → Option Text

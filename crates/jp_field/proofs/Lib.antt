@@ -1,2 +1,4 @@
-pub mod Segments
 pub mod Nodelists
+pub mod OneField
+pub mod RootText
+pub mod Segments

@@ -113,7 +113,7 @@ module _ (tests : Tests) (root : Json) where
   through_none tree.no_segments = refl
   through_none (tree.add_segment s ss) = through_none ss
 
-  values : List Node → List Json
+  abbrev values : List Node → List Json
   values ns = map (λ (m : Node). m.value) ns
 
   abbrev Found : tree.Segments → Path → Type 0

@@ -1,5 +1,5 @@
 -- The steps of compiled segments.
-use Rattle.std.proofs.Common.{◌≡◌, ◌<◌, ◌≤◌, ◌+◌, ℕ, true, false, List, [], ◌∷◌, ◌++◌, length, get_or, drop, map}
+use Rattle.std.proofs.Common.{◌≡◌, ◌<◌, ◌≤◌, ◌+◌, ◌⊎◌, inl, inr, ℕ, true, false, List, [], ◌∷◌, ◌++◌, length, get_or, drop, map}
 use Rattle.std.proofs.Common.{Option, Some, None, option_map, refl, sym, ap, ◌∙◌, arith, append_assoc, append-nil, rules}
 use Rattle.std.proofs.lemmas.List.{at_drop_more, at_drop_all, map-append}
 use Rattle.jp_tree.specs.Tree as tree
@@ -21,6 +21,14 @@ one_is [] x low high is = absurd (omega arith)
 one_is (y ∷ []) x low high is = ap (λ z. z ∷ []) (sym is)
 one_is (y ∷ z ∷ xs) x low high is = absurd (omega arith)
 
+several : (x y : tree.Selector) (xs : tree.Selectors)
+    → step_in (tree.segment false (tree.add_selector x (tree.add_selector y xs))) ≡ None
+several (tree.name k) y xs = refl
+several tree.wildcard y xs = refl
+several (tree.index t) y xs = refl
+several (tree.slice a b c) y xs = refl
+several (tree.filter l) y xs = refl
+
 -- of one selector
 pub step_of_one : (roots : List Wanted) (s : CompiledSegment) (xs : List CompiledSelector) (x : CompiledSelector)
     (o : Option Step) → (out-CompiledSegment s).deep ≡ false → xs ≡ (out-CompiledSegment s).selectors.items
@@ -33,30 +41,24 @@ step_of_one roots s xs x o plain items low high is step =
     ∙ ap (λ ys. tree.segment false (tree.selectors (map (selector_in roots) ys)))
     (sym items ∙ one_is xs x low high is)) ∙ step
 
-none_of : (ts : List tree.Selector) → (length ts ≡ 1 → ⊥)
-    → step_in (tree.segment false (tree.selectors ts)) ≡ None
-none_of [] h = refl
-none_of (t ∷ []) h = absurd (h refl)
-none_of (tree.name k ∷ u ∷ ts) h = refl
-none_of (tree.wildcard ∷ u ∷ ts) h = refl
-none_of (tree.index k ∷ u ∷ ts) h = refl
-none_of (tree.slice a b c ∷ u ∷ ts) h = refl
-none_of (tree.filter l ∷ u ∷ ts) h = refl
-
-map_length : (roots : List Wanted) (xs : List CompiledSelector) → length (map (selector_in roots) xs) ≡ length xs
-map_length roots [] = refl
-map_length roots (x ∷ xs) = ap (λ n. n + 1) (map_length roots xs)
+none_of : (roots : List Wanted) (xs : List CompiledSelector) → (length xs < 1) ⊎ (2 ≤ length xs)
+    → step_in (tree.segment false (tree.selectors (map (selector_in roots) xs))) ≡ None
+none_of roots [] h = refl
+none_of roots (x ∷ []) (inl h) = absurd (omega (arith, h))
+none_of roots (x ∷ []) (inr h) = absurd (omega (arith, h))
+none_of roots (x ∷ y ∷ xs) h = several (selector_in roots x) (selector_in roots y)
+    (tree.selectors (map (selector_in roots) xs))
 
 -- of another number of them
 pub step_of_others : (roots : List Wanted) (s : CompiledSegment) (xs : List CompiledSelector)
     → (out-CompiledSegment s).deep ≡ false → xs ≡ (out-CompiledSegment s).selectors.items
-    → (length xs ≡ 1 → ⊥) → step_in (segment_in roots s) ≡ None
+    → (length xs < 1) ⊎ (2 ≤ length xs) → step_in (segment_in roots s) ≡ None
 step_of_others roots s xs plain items other =
     ap step_in (segment_is roots s
     ∙ ap (λ d. tree.segment d (tree.selectors (map (selector_in roots) (out-CompiledSegment s).selectors.items)))
     plain
     ∙ ap (λ ys. tree.segment false (tree.selectors (map (selector_in roots) ys))) (sym items))
-    ∙ none_of (map (selector_in roots) xs) (λ e. other (sym (map_length roots xs) ∙ e))
+    ∙ none_of roots xs other
 
 -- of a descendant segment
 pub step_of_deep : (roots : List Wanted) (s : CompiledSegment) → (out-CompiledSegment s).deep ≡ true
@@ -67,9 +69,8 @@ step_of_deep roots s deep =
     deep)
 
 -- the steps before others
-pub path_behind : List FieldStep → Option Path → Option Path
+abbrev pub path_behind : List FieldStep → Option Path → Option Path
 path_behind steps o = option_map (λ path. map step_of steps ++ path) o
-
 
 behind_step : (steps : List FieldStep) (s : FieldStep) (o : Option Path)
     → path_behind steps (step_before (Some (step_of s)) o) ≡ path_behind (steps ++ s ∷ []) o

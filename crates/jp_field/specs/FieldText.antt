@@ -1,5 +1,6 @@
 -- Which texts are fields: singular queries of `@` (RFC 9535, 2.3.5.1).
 use Rattle.std.specs.Prelude.{◌≡◌, ◌⊎◌, ◌∷◌, [], ℕ, List, true, false, Option, None, Some, Err}
+use Rattle.std.specs.Str.{chars}
 use Rattle.jp_tree.specs.Tree as tree
 use Rattle.jp_tree.specs.Tree.{Text, Query}
 use Rattle.jp_tree.specs.declared.fault.QueryFault.{QueryFault}
@@ -42,3 +43,9 @@ IsRefusedAfter rest fault = IsVerdict (36 ∷ rest) (Err fault)
 abbrev pub IsFieldRefused : Text → QueryFault → Type 0
 IsFieldRefused text fault = (((rest : Text) → text ≡ 64 ∷ rest → ⊥) × (fault ≡ Syntax))
     ⊎ ((rest : Text) × (text ≡ 64 ∷ rest) × IsRefusedAfter rest fault)
+
+-- the texts, in bytes, are these fields, in their order
+abbrev pub AreFields : List (List ℕ) → List Path → Type 0
+AreFields [] fs = fs ≡ []
+AreFields (t ∷ ts) fs = (f : Path) × (rest : List Path) × (fs ≡ f ∷ rest) × IsFieldText (chars t) f
+    × AreFields ts rest

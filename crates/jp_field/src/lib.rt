@@ -5,4 +5,4 @@ mod field_text;
 pub mod laws;
 mod steps;
 
-pub use field_text::field_in;
+pub use field_text::{field_in, fields_in};

@@ -24,7 +24,9 @@ use crate::answered::Answered;
 use crate::answering::answer_in;
 use jp_answer::{Asked, LinePolicy};
 use jp_eval::DocumentFilter;
-use jp_output::{Head, InputLines, Layout, NodeLines, RawLines, TextLines, ValueLines};
+use jp_output::{
+    FieldList, Head, InputLines, Layout, NodeLines, RawLines, RowLines, TextLines, ValueLines,
+};
 use jp_run::{Output, Prepared, RunFault, Settings};
 use jp_tree::QueryFault;
 use std::alloc::{AllocError, Global};
@@ -105,13 +107,14 @@ fn head_by(alloc: Global, settings: &Settings<'_>) -> Result<Head, AllocError>
 }
 
 /// What stands around what is written. `AllocError` if memory was refused: none is taken where there is no
-/// name.
+/// name, and no field.
 fn layout_by(alloc: Global, settings: &Settings<'_>) -> Result<Layout, AllocError>
     ensures { IfOk result (λ layout. layout ≡ layout_of settings.now) }
 {
     Ok(Layout {
         head: head_by(alloc, settings)?,
         ending: settings.ending,
+        fields: FieldList::of(alloc, settings.fields)?,
     })
 }
 
@@ -143,6 +146,7 @@ fn answer_in_form(
         Output::Values => answer_in::<ValueLines>(alloc, asked, settings, input),
         Output::Texts => answer_in::<TextLines>(alloc, asked, settings, input),
         Output::Raw => answer_in::<RawLines>(alloc, asked, settings, input),
+        Output::Rows => answer_in::<RowLines>(alloc, asked, settings, input),
         Output::Lines => answer_in::<InputLines>(alloc, asked, settings, input),
     }
 }

@@ -15,7 +15,9 @@ use jp_buffer::{LineRef, WaitingLines, refs_of};
 use jp_check::{Plan, plan_in};
 use jp_doc::{Line, Lines};
 use jp_number::Numbers;
-use jp_output::{Form, Head, InputLines, Layout, NodeLines, RawLines, TextLines, ValueLines};
+use jp_output::{
+    FieldList, Form, Head, InputLines, Layout, NodeLines, RawLines, RowLines, TextLines, ValueLines,
+};
 use jp_probe_parts::{Row, items_in, number_in, text_in};
 use jp_run::{FromReader, FromWriter, Output, RunFault, Settings, answer, answer_all};
 use serde::Serialize;
@@ -133,6 +135,7 @@ fn all_ways<R: Threads + Sync>(
     let layout = Layout {
         head: head_of(alloc, settings.name)?,
         ending: settings.ending,
+        fields: FieldList::of(alloc, settings.fields)?,
     };
     let crew = Crew {
         rt,
@@ -225,6 +228,7 @@ fn ways_of_form<R: Threads + Sync>(
         Output::Values => ways_in::<R, ValueLines>(crew, asked, &refs, piece),
         Output::Texts => ways_in::<R, TextLines>(crew, asked, &refs, piece),
         Output::Raw => ways_in::<R, RawLines>(crew, asked, &refs, piece),
+        Output::Rows => ways_in::<R, RowLines>(crew, asked, &refs, piece),
         Output::Lines => ways_in::<R, InputLines>(crew, asked, &refs, piece),
     }
 }

@@ -70,6 +70,7 @@ fn output_of(name: &str) -> anyhow::Result<Output> {
         "values" => Output::Values,
         "texts" => Output::Texts,
         "raw" => Output::Raw,
+        "rows" => Output::Rows,
         "lines" => Output::Lines,
         _ => return Err(anyhow::anyhow!("no form has the name that stands in a row")),
     })
@@ -82,6 +83,7 @@ fn name_of(output: Output) -> &'static str {
         Output::Values => "values",
         Output::Texts => "texts",
         Output::Raw => "raw",
+        Output::Rows => "rows",
         Output::Lines => "lines",
     }
 }

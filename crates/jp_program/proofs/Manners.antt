@@ -12,6 +12,7 @@ use Rattle.jp_answer.specs.Policy.{policy}
 use Rattle.jp_answer.specs.declared.on_fault.OnFault.{OnFault}
 use Rattle.jp_number.specs.declared.numbers.Numbers.{Numbers}
 use Rattle.jp_output.specs.Layouts.{laid_out}
+use Rattle.jp_output.specs.Rows.{Path}
 use Rattle.jp_output.specs.declared.layout.Ending.{Ending}
 use Rattle.jp_run.specs.AskedTexts.{AreAcceptedIn, AskedTexts}
 use Rattle.jp_run.specs.Answered.{IsAnswerBy, head_behind}
@@ -32,16 +33,17 @@ numbering_so c d m n cutting before =
     ∙ ap (λ (z : ℕ). record { cutting = d; before = z }) before
 
 -- and so is a manner
-pub manner_so : (c d : Numbering) (o p : Output) (h k : List ℕ) (e f : Ending) (a b : Numbers)
-    (x y : OnFault) → c ≡ d → o ≡ p → h ≡ k → e ≡ f → a ≡ b → x ≡ y
-    → manner c (form_of o (laid_out h e)) (policy a x) ≡ manner d (form_of p (laid_out k f)) (policy b y)
-manner_so c d o p h k e f a b x y numbering output head ending numbers on_fault =
-    ap (λ (z : Numbering). manner z (form_of o (laid_out h e)) (policy a x)) numbering
-    ∙ ap (λ (z : Output). manner d (form_of z (laid_out h e)) (policy a x)) output
-    ∙ ap (λ (z : List ℕ). manner d (form_of p (laid_out z e)) (policy a x)) head
-    ∙ ap (λ (z : Ending). manner d (form_of p (laid_out k z)) (policy a x)) ending
-    ∙ ap (λ (z : Numbers). manner d (form_of p (laid_out k f)) (policy z x)) numbers
-    ∙ ap (λ (z : OnFault). manner d (form_of p (laid_out k f)) (policy b z)) on_fault
+pub manner_so : (c d : Numbering) (o p : Output) (h k : List ℕ) (e f : Ending) (r s : List Path) (a b : Numbers)
+    (x y : OnFault) → c ≡ d → o ≡ p → h ≡ k → e ≡ f → r ≡ s → a ≡ b → x ≡ y
+    → manner c (form_of o (laid_out h e r)) (policy a x) ≡ manner d (form_of p (laid_out k f s)) (policy b y)
+manner_so c d o p h k e f r s a b x y numbering output head ending fields numbers on_fault =
+    ap (λ (z : Numbering). manner z (form_of o (laid_out h e r)) (policy a x)) numbering
+    ∙ ap (λ (z : Output). manner d (form_of z (laid_out h e r)) (policy a x)) output
+    ∙ ap (λ (z : List ℕ). manner d (form_of p (laid_out z e r)) (policy a x)) head
+    ∙ ap (λ (z : Ending). manner d (form_of p (laid_out k z r)) (policy a x)) ending
+    ∙ ap (λ (z : List Path). manner d (form_of p (laid_out k f z)) (policy a x)) fields
+    ∙ ap (λ (z : Numbers). manner d (form_of p (laid_out k f s)) (policy z x)) numbers
+    ∙ ap (λ (z : OnFault). manner d (form_of p (laid_out k f s)) (policy b z)) on_fault
 
 -- what each line stands behind, where lines are to name their file, and where they are not
 module _ (names : Bool) (name : Bor Text) (given : Option (Bor Text)) where

@@ -5,7 +5,7 @@ use Rattle.std.proofs.Common.{None, arith, ◌==◌, ◌||◌, if◌then◌else�
 use Rattle.std.specs.Prelude.{nat_lt}
 use Rattle.std.specs.Str.{chars}
 use Rattle.std.specs.Str.Parse.{digits_value, without_leading_plus}
-use Rattle.clap.specs.Walk.{Text, Row}
+use Rattle.clap.specs.Walk.{Text, Row, all_of}
 use Rattle.clap.specs.Kinds.{Kinds, IsAmong}
 use Rattle.clap.specs.declared.error.kind.ErrorKind.{ErrorKind}
 use Rattle.jp_tree.specs.declared.fault.QueryFault.{QueryFault}
@@ -14,6 +14,8 @@ use Rattle.jp_answer.specs.declared.on_fault.OnFault.{OnFault}
 use Rattle.jp_answer.specs.declared.on_fault.OnFault.TheVariants.{Stop, KeepGoing}
 use Rattle.jp_number.specs.declared.numbers.Numbers.{Numbers}
 use Rattle.jp_number.specs.declared.numbers.Numbers.TheVariants.{Whole, Decimals}
+use Rattle.jp_field.proofs.OneField.{one_each}
+use Rattle.jp_output.specs.Rows.{Path}
 use Rattle.jp_output.specs.declared.layout.Ending.{Ending}
 use Rattle.jp_output.specs.declared.layout.Ending.TheVariants.{LineFeed, Null}
 use Rattle.jp_run.specs.AskedTexts.{IsFilterRefused}
@@ -23,7 +25,7 @@ use Rattle.jp_run.specs.declared.fault.RunFault.TheVariants.{Memory}
 use Rattle.jp_run.specs.declared.cutting.Cutting.{Cutting}
 use Rattle.jp_run.specs.declared.cutting.Cutting.TheVariants as cutting
 use Rattle.jp_run.specs.declared.output.Output.{Output}
-use Rattle.jp_run.specs.declared.output.Output.TheVariants.{Nodes, Values, Texts, Raw, Lines}
+use Rattle.jp_run.specs.declared.output.Output.TheVariants.{Nodes, Values, Texts, Raw, Rows, Lines}
 use Rattle.jp_program.specs.CommandLine.{said, refusals, AsksToShow}
 use Rattle.jp_program.specs.Outcome.{IsRefusedWish}
 use Rattle.jp_program.specs.Wanted.{ends_with_null}
@@ -39,11 +41,12 @@ same_some x y e = cc
 
 -- what is said of an option is one thing
 
--- the first byte of what is said
+-- the first byte of what is said, and of a word that begins with r, which is 114, the second
 abbrev first : Option Text → ℕ
 first None = 0
 first (Some []) = 0
-first (Some (b ∷ bs)) = b
+first (Some (b ∷ [])) = b
+first (Some (b ∷ c ∷ bs)) = if b == 114 then c else b
 
 pub flag_same : (b d : Bool) → ◌≡◌ (Some (flag_text b)) (Some (flag_text d)) → b ≡ d
 flag_same true true e = refl
@@ -66,16 +69,17 @@ names_same rows xs ys m n a b same = a.2
     ∙ ap (λ (t : Bool). t || nat_lt 1 (length xs)) (flag_same a.0 b.0 (sym a.1 ∙ b.1))
     ∙ ap (λ (fs : List Text). b.0 || nat_lt 1 (length fs)) same ∙ sym b.2
 
--- which form a word names, by its first byte
+-- which form a word names, by that byte
 abbrev named : ℕ → Output
 named b = if b == 110 then Nodes else (if b == 118 then Values else (if b == 116 then Texts else
-    (if b == 114 then Raw else Lines)))
+    (if b == 97 then Raw else (if b == 111 then Rows else Lines))))
 
 named_is : (x : Output) → named (first (Some (output_text x))) ≡ x
 named_is Nodes = refl
 named_is Values = refl
 named_is Texts = refl
 named_is Raw = refl
+named_is Rows = refl
 named_is Lines = refl
 
 -- what the flag says of the way of cutting
@@ -163,6 +167,18 @@ one_wish words v w a b =
       ending = e;
     })
     (ending_same v.ending w.ending (sym a.1.ending.0 ∙ b.1.ending.0))
+    ∙ ap (λ (fs : List Path). record v {
+      query = w.query;
+      filter = w.filter;
+      files = w.files;
+      names = w.names;
+      cutting = w.cutting;
+      check = w.check;
+      output = w.output;
+      ending = w.ending;
+      fields = fs;
+    })
+    (one_each (unwrap_or (all_of (codes "field") (said words)) []) v.fields w.fields a.1.fields.0 b.1.fields.0)
     ∙ ap (λ (n : Numbers). record w {
       numbers = n;
       on_fault = v.on_fault;

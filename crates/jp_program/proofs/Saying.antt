@@ -146,3 +146,15 @@ module _ (rows : List Row) (got : Option (Bor (List (Bor Text))))
   pub files_none : got ≡ None → unwrap_or (all_of (codes "file") rows) [] ≡ []
   files_none e = ap (λ (o : Option (List Text)). unwrap_or o [])
       (sym is ∙ ap (option_map (λ (s : Bor (List (Bor Text))). texts s.now)) e)
+
+-- the texts of an option that is given as often are what is said of it
+module _ (name : Text) (rows : List Row) (got : Option (Bor (List (Bor Text))))
+    (is : option_map (λ s. texts s.now) got ≡ all_of name rows) where
+  pub texts_some : (given : Bor (List (Bor Text))) → got ≡ Some given
+      → texts given.now ≡ unwrap_or (all_of name rows) []
+  texts_some given e = sym (ap (λ (o : Option (List Text)). unwrap_or o [])
+      (sym is ∙ ap (option_map (λ (s : Bor (List (Bor Text))). texts s.now)) e))
+
+  pub texts_none : got ≡ None → [] ≡ unwrap_or (all_of name rows) []
+  texts_none e = sym (ap (λ (o : Option (List Text)). unwrap_or o [])
+      (sym is ∙ ap (option_map (λ (s : Bor (List (Bor Text))). texts s.now)) e))

@@ -8,7 +8,7 @@ use Rattle.clap.specs.Simple.{App, new_app, new_rule, with_rule, on_top, matches
 use Rattle.clap.specs.Kinds.{Kinds, IsAmong}
 use Rattle.clap.specs.Lexer.{usize_max}
 use Rattle.clap.specs.Faults.{fault_of}
-use Rattle.clap.specs.declared.builder.action.ArgAction.TheVariants.{SetTrue}
+use Rattle.clap.specs.declared.builder.action.ArgAction.TheVariants.{Append, SetTrue}
 use Rattle.clap.specs.declared.builder.value_parser.ValueParser.TheVariants as vp
 use Rattle.clap.specs.declared.error.kind.ErrorKind.{ErrorKind}
 use Rattle.clap.specs.declared.error.kind.ErrorKind.TheVariants.{DisplayHelp, DisplayVersion}
@@ -35,6 +35,14 @@ output_rule = record (new_rule (codes "output")) {
 abbrev pub filter_rule : Rule
 filter_rule = record (new_rule (codes "where")) { long = Some (codes "where"); value_names = 1 }
 
+-- the option that takes a field, as often as it is there
+abbrev pub field_rule : Rule
+field_rule = record (new_rule (codes "field")) {
+  long = Some (codes "field");
+  value_names = 1;
+  action = Some Append;
+}
+
 -- an option that is there or not
 abbrev pub flag_rule : Text → Rule
 flag_rule name = record (new_rule name) { long = Some name; action = Some SetTrue }
@@ -60,7 +68,7 @@ abbrev pub with_output : App → App
 with_output a = with_rule a output_rule
 
 abbrev pub with_filter : App → App
-with_filter a = with_rule a filter_rule
+with_filter a = with_rule (with_rule a field_rule) filter_rule
 
 abbrev pub with_numbers : App → App
 with_numbers a = with_rule (with_rule (with_rule (with_rule a (number_rule (codes "workers") (codes "4")))
@@ -76,8 +84,8 @@ with_flags a = with_rule (with_rule (with_rule (with_rule (with_rule (with_rule 
 abbrev pub with_query : App → App
 with_query a = with_rule (with_rule a query_rule) files_rule
 
--- `jp [-o FORM] [--where FILTER] [--workers N] [--piece N] [--batch N] [--first N] [--check] [-d] [-k]
--- [--explain] [-e] [--documents] [--with-filename] [-0] QUERY [FILE]...`, where `-o` is `--output`, `-d` is
+-- `jp [-o FORM] [--field QUERY]... [--where FILTER] [--workers N] [--piece N] [--batch N] [--first N] [--check]
+-- [-d] [-k] [--explain] [-e] [--documents] [--with-filename] [-0] QUERY [FILE]...`, where `-o` is `--output`, `-d` is
 -- `--decimals`, `-k` is `--keep-going`, `-e` is `--exit-status` and `-0` is `--null`; with `--help` and
 -- `--version`
 abbrev pub jp_app : App

@@ -49,9 +49,9 @@ IsRefusedWish w fault = AreRefusedIn w.numbers (asked_in w) fault
 abbrev pub head_of : Wanted → Text → List ℕ
 head_of w name = if w.names then name ++ 9 ∷ [] else []
 
--- the wanted form of the answer to an input of this name, with the wanted ending
+-- the wanted form of the answer to an input of this name, with the wanted ending and the wanted fields
 abbrev pub form_for : Wanted → Text → OutputForm
-form_for w name = form_of w.output (laid_out (head_of w name) w.ending)
+form_for w name = form_of w.output (laid_out (head_of w name) w.ending w.fields)
 
 -- how each input is cut, and its lines, or documents, are numbered
 abbrev pub numbering_in : Wanted → Numbering

@@ -1,5 +1,5 @@
 -- What a command line wants.
-use Rattle.std.specs.Prelude.{◌≡◌, ◌+◌, ◌⊎◌, ◌||◌, ℕ, Bool, true, false, List, [], Option, Some, length}
+use Rattle.std.specs.Prelude.{◌≡◌, ◌≤◌, ◌+◌, ◌⊎◌, ◌||◌, ℕ, Bool, true, false, List, [], Option, Some, length}
 use Rattle.std.specs.Prelude.{option_map}
 use Rattle.std.specs.Prelude.{unwrap_or, codes, nat_lt}
 use Rattle.std.specs.Char.{is_control}
@@ -13,16 +13,18 @@ use Rattle.jp_number.specs.declared.numbers.Numbers.{Numbers}
 use Rattle.jp_number.specs.declared.numbers.Numbers.TheVariants.{Whole, Decimals}
 use Rattle.jp_output.specs.declared.layout.Ending.{Ending}
 use Rattle.jp_output.specs.declared.layout.Ending.TheVariants.{LineFeed, Null}
+use Rattle.jp_field.specs.FieldText.{AreFields}
+use Rattle.jp_output.specs.Rows.{Path}
 use Rattle.jp_run.specs.Settings.{AreSettings, IsFirst}
 use Rattle.jp_run.specs.declared.cutting.Cutting.{Cutting}
 use Rattle.jp_run.specs.declared.cutting.Cutting.TheVariants as cutting
 use Rattle.jp_run.specs.declared.output.Output.{Output}
-use Rattle.jp_run.specs.declared.output.Output.TheVariants.{Nodes, Values, Texts, Raw, Lines}
+use Rattle.jp_run.specs.declared.output.Output.TheVariants.{Nodes, Values, Texts, Raw, Rows, Lines}
 use Rattle.jp_program.specs.CommandLine.{said, refusals, IsRefused}
 
 -- the query's text in scalar values, and that of a filter of documents, if there is one, the files by their
 -- names in bytes, whether lines are to name theirs, how each is cut into documents, whether what is asked is
--- only checked, what is written, what ends values, which numbers documents, the query and the filter may
+-- only checked, what is written, what ends values, which fields rows have, which numbers documents, the query and the filter may
 -- have, what is done where a line is faulty, whether faulty lines are to be explained, whether the status
 -- tells that nothing was selected, the settings, and how many lines, or documents, stand before the first of
 -- each input
@@ -35,6 +37,7 @@ pub record Wanted : Type 0 where
   pub check : Bool
   pub output : Output
   pub ending : Ending
+  pub fields : List Path
   pub numbers : Numbers
   pub on_fault : OnFault
   pub explain : Bool
@@ -91,6 +94,7 @@ output_text Nodes = codes "nodes"
 output_text Values = codes "values"
 output_text Texts = codes "texts"
 output_text Raw = codes "raw"
+output_text Rows = codes "rows"
 output_text Lines = codes "lines"
 
 -- the option's text is the word for this form
@@ -103,6 +107,7 @@ is_of_values Nodes = false
 is_of_values Values = true
 is_of_values Texts = true
 is_of_values Raw = true
+is_of_values Rows = false
 is_of_values Lines = false
 
 -- U+0000 ends values, or a line feed does, by whether that option is there
@@ -119,6 +124,25 @@ GoesWith Null output = is_of_values output ≡ true
 abbrev pub SaysEnding : List Row → Output → Ending → Type 0
 SaysEnding rows output ending = SaysFlag (codes "null") rows (ends_with_null ending)
     × GoesWith ending output
+
+-- the form whose lines have fields
+abbrev pub has_fields : Output → Bool
+has_fields Nodes = false
+has_fields Values = false
+has_fields Texts = false
+has_fields Raw = false
+has_fields Rows = true
+has_fields Lines = false
+
+-- the most fields
+abbrev pub max_fields : ℕ
+max_fields = 64
+
+-- the option's texts are these fields, in the order of the words: one at least with the form of rows, and
+-- none with any other
+abbrev pub SaysFields : List Row → Output → List Path → Type 0
+SaysFields rows output fields = AreFields (unwrap_or (all_of (codes "field") rows) []) fields
+    × (nat_lt 0 (length fields) ≡ has_fields output) × (length fields ≤ max_fields)
 
 -- no character of a file's name is a control character: U+0000 to U+001F, U+007F to U+009F
 abbrev pub IsName : Text → Type 0
@@ -153,6 +177,7 @@ pub record Says (rows : List Row) (w : Wanted) : Type 0 where
   pub check : SaysFlag (codes "check") rows w.check
   pub output : SaysOutput rows w.output
   pub ending : SaysEnding rows w.output w.ending
+  pub fields : SaysFields rows w.output w.fields
   pub numbers : SaysNumbers rows w.numbers
   pub on_fault : SaysOnFault rows w.on_fault
   pub explain : SaysFlag (codes "explain") rows w.explain
@@ -172,6 +197,7 @@ abbrev pub WantsRun : List Text → Wanted → Type 0
 WantsRun words w = Wants words w × (w.check ≡ false)
 
 -- the words are wrong, or a number is out of its range, or there is no such form, or U+0000 is to end what
--- is no value, or a file's name has a control character
+-- is no value, or a text is no field, or there are fields without rows, or rows without fields, or a file's
+-- name has a control character
 abbrev pub IsWrong : List Text → Type 0
 IsWrong words = IsRefused words ⊎ ((refusals words ≡ []) × ((w : Wanted) → Says (said words) w → ⊥))

@@ -13,16 +13,20 @@ ghost use Rattle.jp_program.specs.Told.{IsExplained, IsTold, query_line};
 ghost use Rattle.jp_program.specs.Wanted.{Wanted as Wish, Wants};
 
 use crate::command::{note, note_text, tell};
-use crate::command_line::{Invocation, ending_by, files_by, matches, output_by, read_words};
+use crate::command_line::{
+    Invocation, MAX_FIELDS, ending_by, field_texts, fields_by, files_by, matches, output_by,
+    read_words,
+};
 use crate::file_notes::{RunEnd, tell_of_run};
 use crate::filter_advice::tell_filter_refusal;
+use crate::output::has_fields;
 use crate::peer_options::first_own_way;
 use crate::split::with_question;
 use clap::ArgMatches;
 use clap::error::ErrorKind;
 use jp_explain::{escaped, explain, write_mark};
 use jp_number::Numbers;
-use jp_run::{RunFault, Sink};
+use jp_run::{Output, RunFault, Sink};
 use jp_tree::QueryFault;
 use std::alloc::{AllocError, Global};
 
@@ -175,15 +179,32 @@ fn advice_by(
 /// Which value of words that are read is wrong.
 fn wrong_value(alloc: Global, matches: &ArgMatches<'_>) -> Result<&'static str, AllocError> {
     let Some(output) = output_by(matches) else {
-        return Ok("jp: --output takes nodes, values, texts, raw or lines");
+        return Ok("jp: --output takes nodes, values, texts, raw, rows or lines");
     };
     if ending_by(matches, output).is_none() {
         return Ok("jp: -0, --null goes with --output values, texts or raw");
+    }
+    if fields_by(alloc, matches, output)?.is_none() {
+        return Ok(wrong_fields(output, field_texts(matches)));
     }
     if files_by(alloc, matches)?.is_none() {
         return Ok("jp: a file's name has a control character");
     }
     Ok("jp: a number is out of its range; try jp --help")
+}
+
+/// What is wrong with fields.
+fn wrong_fields(output: Output, given: &[&str]) -> &'static str {
+    if !has_fields(output) {
+        return "jp: --field goes with --output rows";
+    }
+    if given.is_empty() {
+        return "jp: --output rows takes --field FIELD, once or more";
+    }
+    if given.len() > MAX_FIELDS {
+        return "jp: --field is given 64 times at most";
+    }
+    "jp: --field takes a singular query of @, as @.name or @['a'][0]"
 }
 
 /// What to do where there is no query. A word that looks like one was taken by the option before it.

@@ -1,31 +1,36 @@
 //! What the command line asks for.
 
 ghost use Rattle.std.specs.Prelude.{◌≡◌, ◌≤◌, ◌^◌, ◌↔◌, ℕ, Bool, true, false, IfOk, IfErr, IfSome, IsNone};
-ghost use Rattle.std.specs.Prelude.{List, codes};
+ghost use Rattle.std.specs.Prelude.{List, [], codes, map, unwrap_or};
 ghost use Rattle.std.specs.List.{All};
-ghost use Rattle.clap.specs.Walk.{Text, texts};
+ghost use Rattle.clap.specs.Walk.{Text, all_of, texts};
 ghost use Rattle.clap.specs.Words.{app_of, found_of, rows_of, rule_of, new_app, FailsBy};
 ghost use Rattle.jp_output.specs.declared.layout.Ending.{Ending as End};
 ghost use Rattle.jp_run.specs.declared.output.Output.{Output as Form};
 ghost use Rattle.jp_program.specs.CommandLine.{number_rule, flag_rule, letter_rule, query_rule, files_rule};
-ghost use Rattle.jp_program.specs.CommandLine.{filter_rule, output_rule, said, refusals, with_version};
+ghost use Rattle.jp_program.specs.CommandLine.{field_rule, filter_rule, output_rule, said, refusals, with_version};
 ghost use Rattle.jp_program.specs.CommandLine.{with_output as output_option_of, with_numbers as numbers_of};
 ghost use Rattle.jp_program.specs.CommandLine.{with_filter as filter_option_of};
 ghost use Rattle.jp_program.specs.CommandLine.{with_flags as flags_of, with_query as query_of};
 ghost use Rattle.jp_program.specs.inner.Invocation.{IsAsked, IsNotAsked, wanted_of};
 ghost use Rattle.jp_program.specs.Wanted.{Wanted as Wish, Says, SaysNumber, SaysFlag, SaysOutput, AreSaid};
 ghost use Rattle.jp_program.specs.Wanted.{IsName, SaysFiles, SaysNames, cuts_documents, has_decimals};
-ghost use Rattle.jp_program.specs.Wanted.{SaysEnding, ends_with_null, keeps_going};
+ghost use Rattle.jp_program.specs.Wanted.{SaysEnding, SaysFields, ends_with_null, keeps_going};
+ghost use Rattle.jp_output.specs.Rows.{Path, field_of};
 
-use crate::output::{is_of_values, output_of};
+use crate::output::{has_fields, is_of_values, output_of};
 use crate::version::VERSION;
 use clap::error::ErrorKind;
 use clap::{Arg, ArgAction, ArgMatches, Command, Error, value_parser};
 use jp_answer::OnFault;
+use jp_field::fields_in;
 use jp_number::Numbers;
-use jp_output::Ending;
+use jp_output::{Ending, Field};
 use jp_run::{Cutting, Output, RunFault, Settings};
 use std::alloc::{AllocError, Global};
+
+/// The most fields of a row.
+pub(crate) const MAX_FIELDS: usize = 64;
 
 /// What the help says behind the options.
 const MORE: &str = "\
@@ -34,6 +39,7 @@ Examples:
   jp --where '@.level==\"error\"' '$.msg' < app.log
   jp --output lines '$[?$.level==\"error\"]' app.log
   jp --output texts '$.msg' < app.log
+  jp -o rows --field @.id --field @.price '$.items[*]' < orders.jsonl
   jp -0 --output raw '$.path' < files.jsonl | xargs -0 ls
   jp -d --documents '$.service.port' service.json
   jp -de --documents '$.service.user' service.json
@@ -53,7 +59,9 @@ normalized path and its value, with a tab between. So cut -f3 gives the values.
 Where two FILEs or more are named, or with --with-filename, the name of the file
 stands before it: then cut -f4 does. --output values gives the value alone;
 texts the same, but a text without its quotes; raw a text as it stands, line
-feeds and all; lines each line, or document, once, in which a node is selected.
+feeds and all; rows a line of fields with tabs between, each as by texts, or
+empty where there is no value; lines each line, or document, once, in which a
+node is selected. A FIELD is a singular query of @, the node: @.name, @.tags[0].
 None of these names its file. With -0 values, texts and raw texts end with
 U+0000, which xargs -0 and sort -z take, and not with a line feed.
 
@@ -96,6 +104,8 @@ pub(crate) struct Wanted<'a> {
     pub(crate) explain: bool,
     /// Whether the status is to tell that nothing was selected.
     pub(crate) exit_status: bool,
+    /// What each row has.
+    pub(crate) fields: Vec<Field>,
     pub(crate) settings: Settings<'a>,
 }
 
@@ -158,10 +168,11 @@ fn with_output<'a>(alloc: Global, command: Command<'a>) -> Result<Command<'a>, A
     command.arg(output(alloc))
 }
 
-/// The command, with the option that takes a filter of documents.
+/// The command, with the options that take a field and a filter of documents.
 fn with_filter<'a>(alloc: Global, command: Command<'a>) -> Result<Command<'a>, AllocError>
     ensures { IfOk result (λ r. app_of r ≡ filter_option_of (app_of command.entry)) }
 {
+    let command = command.arg(field(alloc))?;
     command.arg(filter(alloc))
 }
 
@@ -221,7 +232,19 @@ fn output<'a>(alloc: Global) -> Arg<'a>
         .long("output")
         .value_name("FORM")
         .default_value("nodes")
-        .help("Form: nodes, values, texts, raw, lines")
+        .help("Form: nodes, values, texts, raw, rows, lines")
+}
+
+/// The option that takes a field.
+fn field<'a>(alloc: Global) -> Arg<'a>
+    ensures rule { rule_of result ≡ field_rule }
+    ensures local { result.global ≡ false }
+{
+    Arg::new(alloc, "field")
+        .long("field")
+        .value_name("FIELD")
+        .action(ArgAction::Append)
+        .help("With rows: a column, as @.name; given as often")
 }
 
 /// The option that takes a filter of documents.
@@ -290,7 +313,8 @@ fn files<'a>(alloc: Global) -> Arg<'a>
 }
 
 /// The query, and what is to be done with it; none where a number is out of its range, or there is no such
-/// form, or U+0000 is to end what is no value, or a file's name has a control character.
+/// form, or U+0000 is to end what is no value, or the fields are none of the form, or a file's name has a
+/// control character.
 fn wanted_by<'a>(alloc: Global, matches: &ArgMatches<'a>) -> Result<Option<Wanted<'a>>, AllocError>
     ensures some { IfOk result (λ o. IfSome o (λ w. Says (rows_of (found_of matches.now)) (wanted_of w))) }
     ensures none { IfOk result (λ o. IsNone o
@@ -299,18 +323,30 @@ fn wanted_by<'a>(alloc: Global, matches: &ArgMatches<'a>) -> Result<Option<Wante
     let Some(files) = files_by(alloc, matches)? else {
         return Ok(None);
     };
-    Ok(wanted_of_files(matches, files))
+    let Some(output) = output_by(matches) else {
+        return Ok(None);
+    };
+    let Some(fields) = fields_by(alloc, matches, output)? else {
+        return Ok(None);
+    };
+    Ok(wanted_of_files(matches, files, output, fields))
 }
 
-/// The same of these files.
-fn wanted_of_files<'a>(matches: &ArgMatches<'a>, files: Vec<&'a str>) -> Option<Wanted<'a>>
+/// The same of these files, in this form, with these fields.
+fn wanted_of_files<'a>(
+    matches: &ArgMatches<'a>,
+    files: Vec<&'a str>,
+    output: Output,
+    fields: Vec<Field>,
+) -> Option<Wanted<'a>>
     requires said { SaysFiles (rows_of (found_of matches.now)) (texts files.items) }
+    requires form { SaysOutput (rows_of (found_of matches.now)) output }
+    requires fields { SaysFields (rows_of (found_of matches.now)) output (map field_of fields.items) }
     ensures some { IfSome result (λ w. Says (rows_of (found_of matches.now)) (wanted_of w)) }
     ensures none { IsNone result → (w : Wish) → Says (rows_of (found_of matches.now)) w → ⊥ }
 {
     let query = matches.get_str("query")?;
     let names = names_by(matches, &files)?;
-    let output = output_by(matches)?;
     let ending = ending_by(matches, output)?;
     let check = flag_by(matches, "check")?;
     let decimals = flag_by(matches, "decimals")?;
@@ -332,6 +368,7 @@ fn wanted_of_files<'a>(matches: &ArgMatches<'a>, files: Vec<&'a str>) -> Option<
         check,
         explain,
         exit_status,
+        fields,
         settings: settings
             .with_ending(ending)
             .with_filter(matches.get_str("where")),
@@ -506,6 +543,35 @@ pub(crate) fn output_by(matches: &ArgMatches<'_>) -> Option<Output>
 {
     let word = matches.get_str("output")?;
     output_of(word)
+}
+
+/// The fields that are said; none where a text is refused, or there are fields without rows, rows without
+/// fields, or more than 64 of them.
+pub(crate) fn fields_by(
+    alloc: Global,
+    matches: &ArgMatches<'_>,
+    output: Output,
+) -> Result<Option<Vec<Field>>, AllocError>
+    ensures some { IfOk result (λ o. IfSome o (λ fields. SaysFields (rows_of (found_of matches.now)) output
+        (map field_of fields.items))) }
+    ensures none { IfOk result (λ o. IsNone o → (fields : List Path)
+        → SaysFields (rows_of (found_of matches.now)) output fields → ⊥) }
+{
+    let given = field_texts(matches);
+    if given.is_empty() == has_fields(output) || given.len() > MAX_FIELDS {
+        return Ok(None);
+    }
+    fields_in(alloc, given)
+}
+
+/// The texts of the option that takes a field, in the order of the words.
+pub(crate) fn field_texts<'m, 'a>(matches: &'m ArgMatches<'a>) -> &'m [&'a str]
+    ensures { texts result.now ≡ unwrap_or (all_of (codes "field") (rows_of (found_of matches.now))) [] }
+{
+    match matches.get_strs("field") {
+        Some(given) => given,
+        None => &[],
+    }
 }
 
 /// What ends values; none where that is not said, or U+0000 is to end what is no value.

@@ -24,6 +24,7 @@ fn all_options()
           check = true;
           output = Texts;
           ending = Null;
+          fields = [];
           numbers = Decimals;
           on_fault = KeepGoing;
           explain = true;
@@ -46,6 +47,7 @@ fn letters()
       check = false;
       output = Texts;
       ending = Null;
+      fields = [];
       numbers = Decimals;
       on_fault = KeepGoing;
       explain = false;
@@ -68,6 +70,7 @@ fn one_file()
       check = false;
       output = Nodes;
       ending = LineFeed;
+      fields = [];
       numbers = Whole;
       on_fault = Stop;
       explain = false;
@@ -86,6 +89,7 @@ fn one_file()
       check = false;
       output = Nodes;
       ending = LineFeed;
+      fields = [];
       numbers = Whole;
       on_fault = Stop;
       explain = false;
@@ -108,6 +112,7 @@ fn two_files()
       check = false;
       output = Nodes;
       ending = LineFeed;
+      fields = [];
       numbers = Whole;
       on_fault = Stop;
       explain = false;
@@ -130,6 +135,7 @@ fn files()
       check = false;
       output = Nodes;
       ending = LineFeed;
+      fields = [];
       numbers = Whole;
       on_fault = Stop;
       explain = false;
@@ -153,6 +159,7 @@ fn options_between_files()
           check = false;
           output = Lines;
           ending = LineFeed;
+          fields = [];
           numbers = Whole;
           on_fault = KeepGoing;
           explain = false;

@@ -36,6 +36,7 @@ pub fn query_alone()
       check = false;
       output = Nodes;
       ending = LineFeed;
+      fields = [];
       numbers = Whole;
       on_fault = Stop;
       explain = false;

@@ -1,8 +1,9 @@
-//! The words for the forms of an answer, and which of them are forms of values.
+//! The words for the forms of an answer, and which of them are forms of values
+//! or have fields.
 
 ghost use Rattle.std.specs.Prelude.{◌≡◌, IfSome, IsNone};
 ghost use Rattle.jp_run.specs.declared.output.Output.{Output as Form};
-ghost use Rattle.jp_program.specs.Wanted.{is_of_values, output_text};
+ghost use Rattle.jp_program.specs.Wanted.{has_fields, is_of_values, output_text};
 
 use jp_run::Output;
 
@@ -16,6 +17,7 @@ pub(crate) fn output_of(word: &str) -> Option<Output>
         "values" => Some(Output::Values),
         "texts" => Some(Output::Texts),
         "raw" => Some(Output::Raw),
+        "rows" => Some(Output::Rows),
         "lines" => Some(Output::Lines),
         _ => None,
     }
@@ -27,6 +29,16 @@ pub(crate) fn is_of_values(output: Output) -> bool
 {
     match output {
         Output::Values | Output::Texts | Output::Raw => true,
-        Output::Nodes | Output::Lines => false,
+        Output::Nodes | Output::Rows | Output::Lines => false,
+    }
+}
+
+/// Whether a form is that whose lines have fields.
+pub(crate) fn has_fields(output: Output) -> bool
+    ensures { result ≡ has_fields output }
+{
+    match output {
+        Output::Rows => true,
+        Output::Nodes | Output::Values | Output::Texts | Output::Raw | Output::Lines => false,
     }
 }

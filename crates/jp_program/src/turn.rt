@@ -36,16 +36,17 @@ pub(crate) struct Search<'r, 'g, 'w, 'q, R> {
 }
 
 /// The settings of a run over the input of this name, which stands before its lines where that is wanted.
-fn settings_for<'n>(wanted: &Wanted<'n>, name: &'n str) -> Settings<'n>
+fn settings_for<'n>(wanted: &'n Wanted<'n>, name: &'n str) -> Settings<'n>
     ensures manner { manner_of result ≡ manner_for (wanted_of wanted.now) name.entry.now
         (wanted_of wanted.now).on_fault }
     ensures on_fault { result.on_fault ≡ wanted.now.settings.on_fault }
     ensures numbers { result.numbers ≡ wanted.now.settings.numbers }
 {
+    let settings = wanted.settings.with_fields(wanted.fields.as_slice());
     if wanted.names {
-        wanted.settings.with_name(Some(name))
+        settings.with_name(Some(name))
     } else {
-        wanted.settings.with_name(None)
+        settings.with_name(None)
     }
 }
 

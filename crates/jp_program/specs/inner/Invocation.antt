@@ -1,7 +1,8 @@
 -- A working file, which nobody has to believe: what is read of the words, for private clauses alone.
-use Rattle.std.specs.Prelude.{◌≡◌, ◌⊎◌, List, option_map}
+use Rattle.std.specs.Prelude.{◌≡◌, ◌⊎◌, List, map, option_map}
 use Rattle.std.specs.Str.{chars}
 use Rattle.clap.specs.Walk.{Text, texts}
+use Rattle.jp_output.specs.Rows.{field_of}
 use Rattle.jp_run.specs.AskedTexts.{AreAcceptedIn}
 use Rattle.jp_run.specs.Prepared.{prepared_query}
 use Rattle.jp_run.specs.declared.fault.RunFault.{RunFault}
@@ -25,6 +26,7 @@ wanted_of w = record {
   check = w.check;
   output = w.settings.output;
   ending = w.settings.ending;
+  fields = map field_of w.fields.items;
   numbers = w.settings.numbers;
   on_fault = w.settings.on_fault;
   explain = w.explain;

@@ -1,9 +1,10 @@
-use Rattle.std.proofs.Common.{◌∙◌, codes, option_map, ap, sym, refl, subst}
+use Rattle.std.proofs.Common.{◌∙◌, codes, map, option_map, ap, sym, refl, subst}
 use Rattle.std.specs.Str.{chars}
 use Rattle.clap.specs.Words.{found_of, rows_of, first_value}
 use Rattle.clap.proofs.WalkLemmas.{first_value-rows}
 use Rattle.jp_program.specs.Wanted.{SaysCutting, SaysEnding, SaysFilter, SaysNames, SaysNumbers, SaysOnFault}
-use Rattle.jp_program.specs.Wanted.{SaysOutput}
+use Rattle.jp_program.specs.Wanted.{SaysFields, SaysOutput}
+use Rattle.jp_output.specs.Rows.{field_of}
 use Rattle.jp_program.proofs.OneWish.{output_same}
 use Rattle.jp_program.proofs.Saying.{ending_said, filter_said, flag_said, query_some, query_none, sizes_kept}
 use Rattle.jp_program.proofs.command_line.wanted_of_files.Goals as goal
@@ -23,7 +24,7 @@ returns-in_err-names-clause-none c = λ h w s. c.in_err-names.ensures.none refl 
 pub returns-in_err-ending-clause-none : goal.returns-in_err-ending-clause-none
 returns-in_err-ending-clause-none c = λ h w s. c.in_err-ending.ensures.none refl w.ending
     (subst (λ o. SaysEnding (rows_of (found_of c.args.matches.now)) o w.ending)
-    (output_same w.output c.in_ok-output.output (sym s.output ∙ c.in_ok-output.ensures.some)) s.ending)
+    (output_same w.output c.args.output (sym s.output ∙ c.requires.form)) s.ending)
 
 pub returns-in_err-settings-clause-none : goal.returns-in_err-settings-clause-none
 returns-in_err-settings-clause-none c = λ h w s.
@@ -48,9 +49,11 @@ returns-clause-some c =
           (flag_said (codes "documents") (rows_of found) _ _ c.in_ok-documents.ensures.some
           c.cutting_of.ensures);
       check = c.in_ok-check.ensures.some;
-      output = subst (SaysOutput (rows_of found)) (sym form) c.in_ok-output.ensures.some;
+      output = subst (SaysOutput (rows_of found)) (sym form) c.requires.form;
       ending = ending_said (rows_of found) _ _ _ _ form (kept.9 ∙ c.with_ending.ensures.ending)
           c.in_ok-ending.ensures.some;
+      fields = subst (λ o. SaysFields (rows_of found) o (map field_of c.args.fields.items)) (sym form)
+          c.requires.fields;
       numbers = subst (SaysNumbers (rows_of found)) (sym (kept.4 ∙ ended.4 ∙ c.in_ok-settings.ensures.numbers))
           (flag_said (codes "decimals") (rows_of found) _ _ c.in_ok-decimals.ensures.some
           c.numbers_for.ensures);

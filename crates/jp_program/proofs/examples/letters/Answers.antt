@@ -18,6 +18,7 @@ returns c = (
     check = refl;
     output = refl;
     ending = (refl, refl);
+    fields = (refl, refl, omega arith);
     numbers = refl;
     on_fault = refl;
     explain = refl;

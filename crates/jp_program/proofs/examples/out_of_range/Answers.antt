@@ -9,7 +9,7 @@ use Rattle.clap.proofs.OnLiterals.{clap_on_literals}
 use Rattle.jp_output.specs.declared.layout.Ending.{Ending}
 use Rattle.jp_output.specs.declared.layout.Ending.TheVariants.{LineFeed, Null}
 use Rattle.jp_run.specs.declared.output.Output.{Output}
-use Rattle.jp_run.specs.declared.output.Output.TheVariants.{Nodes, Values, Texts, Raw, Lines}
+use Rattle.jp_run.specs.declared.output.Output.TheVariants.{Nodes, Values, Texts, Raw, Rows, Lines}
 use Rattle.jp_program.specs.CommandLine.{said, refusals}
 use Rattle.jp_program.specs.Wanted.{GoesWith, IsName, ends_with_null, flag_text, is_of_values, output_text}
 use Rattle.jp_program.proofs.Naming.{controlled}
@@ -87,6 +87,7 @@ word_begins Nodes = let is : first (output_text Nodes) ≡ 110 = refl in omega (
 word_begins Values = let is : first (output_text Values) ≡ 118 = refl in omega (arith, is)
 word_begins Texts = let is : first (output_text Texts) ≡ 116 = refl in omega (arith, is)
 word_begins Raw = let is : first (output_text Raw) ≡ 114 = refl in omega (arith, is)
+word_begins Rows = let is : first (output_text Rows) ≡ 114 = refl in omega (arith, is)
 word_begins Lines = let is : first (output_text Lines) ≡ 108 = refl in omega (arith, is)
 
 no_form : (word : Text) (o : Output) (said : Option Text) → said ≡ Some word → said ≡ Some (output_text o)

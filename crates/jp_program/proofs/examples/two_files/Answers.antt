@@ -17,6 +17,7 @@ returns c = (
     check = refl;
     output = refl;
     ending = (refl, tt);
+    fields = (refl, refl, omega arith);
     numbers = refl;
     on_fault = refl;
     explain = refl;

@@ -18,6 +18,7 @@ returns c = λ name rest. (
     check = refl;
     output = refl;
     ending = (refl, tt);
+    fields = (refl, refl, omega arith);
     numbers = refl;
     on_fault = refl;
     explain = refl;
