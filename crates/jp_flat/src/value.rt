@@ -155,8 +155,8 @@ impl<'d> FlatValue<'d> {
         }
     }
 
-    /// The text between its quotes, as it is printed (RFC 8259, 7), where the value is one that stands so in the
-    /// line. `None` says nothing.
+    /// The text between its quotes, as it is printed (RFC 8259, 7), where the value is one that stands so in
+    /// the line. `None` says nothing.
     // Each text that is written is asked for so.
     #[inline(always)]
     pub fn quoted(self) -> Option<&'d [u8]>
@@ -276,12 +276,13 @@ impl<'d> FlatMember<'d> {
     ghost use Rattle.json.specs.Print.{token_text};
     ghost use Rattle.json.specs.Token.{key};
 
-    /// The name between its quotes and the colon, as they are printed (RFC 8259, 4 and 7), where they stand so in
-    /// the line. `None` says nothing.
+    /// The name between its quotes and the colon, as they are printed (RFC 8259, 4 and 7), where they stand so
+    /// in the line. `None` says nothing.
     // Each name that is written is asked for so.
     #[inline(always)]
     pub fn quoted_name(self) -> Option<&'d [u8]>
-        ensures { IfSome result (λ s. s.now ≡ token_text (key (encode_utf8_all (chars self.entry.name.now)))) }
+        ensures { IfSome result
+            (λ s. s.now ≡ token_text (key (encode_utf8_all (chars self.entry.name.now)))) }
     {
         let value = self.value;
         match value.document.node(value.at - 1) {

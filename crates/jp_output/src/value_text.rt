@@ -15,9 +15,9 @@ use std::alloc::{AllocError, Global};
 
 /// Appends the compact text of a value.
 ///
-/// Texts that stand in the line as they are printed are copied; those that need escapes are made in the scratch
-/// buffer. The members of each object are gathered in a list, since they are written in rising order of their
-/// names.
+/// Texts that stand in the line as they are printed are copied; those that need escapes are made in the
+/// scratch buffer. The members of each object are gathered in a list, since they are written in rising order
+/// of their names.
 #[cycle(append_value)]
 pub(crate) fn append_value(
     alloc: Global,
