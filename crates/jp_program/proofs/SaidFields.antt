@@ -2,6 +2,7 @@
 use Rattle.std.proofs.Common.{◌≡◌, ◌∙◌, ◌≤◌, ◌<◌, ℕ, zero, suc, Bool, true, false, List, [], ◌∷◌, length, map, sym, ap, refl, arith, true≢false}
 use Rattle.std.proofs.Common.{Option, Some, None, Result, Ok, Err, IfOk}
 use Rattle.std.specs.Prelude.{IfSome, nat_lt, nat_eq}
+use Rattle.std.proofs.lemmas.Bool.{eqb-true, eqb-false, ltb-true, ltb-false}
 use Rattle.std.proofs.lemmas.List.{length-map}
 use Rattle.std.specs.Borrow.{Bor}
 use Rattle.clap.specs.Walk.{texts}
@@ -24,17 +25,22 @@ are_of ts o fs some few a = (
 )
 
 -- there are some, or none, as the form wants
+
+by_test : (n : ℕ) (none has some : Bool) → none ≡ nat_eq n 0 → nat_lt 0 n ≡ some → (none ≡ has → ⊥) → some ≡ has
+by_test n true true some is so differs = absurd (differs refl)
+by_test n false false some is so differs = absurd (differs refl)
+by_test n true false true is so differs = absurd (omega (arith, eqb-true n 0 (sym is), ltb-true 0 n so))
+by_test n true false false is so differs = refl
+by_test n false true true is so differs = refl
+by_test n false true false is so differs =
+    absurd (eqb-false n 0 (sym is) (omega (arith, ltb-false 0 n so)))
+
 pub some_so : (n : ℕ) (none has : Bool) → none ≡ nat_eq n 0 → (none ≡ has → ⊥) → nat_lt 0 n ≡ has
-some_so zero none true is differs = absurd (differs is)
-some_so zero none false is differs = refl
-some_so (suc n) none true is differs = refl
-some_so (suc n) none false is differs = absurd (differs is)
+some_so n none has is differs = by_test n none has (nat_lt 0 n) is refl differs
 
 clash : (n : ℕ) (b : Bool) → b ≡ nat_eq n 0 → nat_lt 0 n ≡ b → ⊥
-clash zero true e h = true≢false (sym h)
-clash zero false e h = true≢false (sym e)
-clash (suc n) true e h = true≢false e
-clash (suc n) false e h = true≢false h
+clash n true e h = omega (arith, eqb-true n 0 (sym e), ltb-true 0 n h)
+clash n false e h = eqb-false n 0 (sym e) (omega (arith, ltb-false 0 n h))
 
 pub not_so : (ts : List (List ℕ)) (none has : Bool) (o : Output) (fs : List Path) → none ≡ nat_eq (length ts) 0
     → none ≡ has → has ≡ has_fields o → AreFieldsOf ts o fs → ⊥
