@@ -7,7 +7,7 @@ use std::marker::Model;
 /// What stands before each line of nodes: a name and a tab, or nothing. It means these bytes.
 ///
 /// Its copies share them. Where there are more copies than can be counted, which is 2^63 of them, the further
-/// ones are refused where they are written (README, Heads are shared by their copies).
+/// ones are refused where they are written (README, Heads and fields are shared by their copies).
 #[derive(Drop)]
 pub struct Head {
     shared: Option<Shared<Vec<u8>>>,

@@ -7,6 +7,7 @@ mod Noted
 mod OneWish
 mod Printing
 mod Ran
+mod SaidFields
 mod Saying
 mod Splits
 mod Told

@@ -138,11 +138,14 @@ has_fields Lines = false
 abbrev pub max_fields : ℕ
 max_fields = 64
 
--- the option's texts are these fields, in the order of the words: one at least with the form of rows, and
--- none with any other
+-- the texts are these fields, in their order: one at least with the form of rows, and none with any other
+abbrev pub AreFieldsOf : List Text → Output → List Path → Type 0
+AreFieldsOf texts output fields = AreFields texts fields × (nat_lt 0 (length fields) ≡ has_fields output)
+    × (length fields ≤ max_fields)
+
+-- the option's texts are these fields, in the order of the words
 abbrev pub SaysFields : List Row → Output → List Path → Type 0
-SaysFields rows output fields = AreFields (unwrap_or (all_of (codes "field") rows) []) fields
-    × (nat_lt 0 (length fields) ≡ has_fields output) × (length fields ≤ max_fields)
+SaysFields rows output fields = AreFieldsOf (unwrap_or (all_of (codes "field") rows) []) output fields
 
 -- no character of a file's name is a control character: U+0000 to U+001F, U+007F to U+009F
 abbrev pub IsName : Text → Type 0

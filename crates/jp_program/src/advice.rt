@@ -14,8 +14,7 @@ ghost use Rattle.jp_program.specs.Wanted.{Wanted as Wish, Wants};
 
 use crate::command::{note, note_text, tell};
 use crate::command_line::{
-    Invocation, MAX_FIELDS, ending_by, field_texts, fields_by, files_by, matches, output_by,
-    read_words,
+    Invocation, MAX_FIELDS, ending_by, fields_by, files_by, matches, output_by, read_words,
 };
 use crate::file_notes::{RunEnd, tell_of_run};
 use crate::filter_advice::tell_filter_refusal;
@@ -185,7 +184,7 @@ fn wrong_value(alloc: Global, matches: &ArgMatches<'_>) -> Result<&'static str, 
         return Ok("jp: -0, --null goes with --output values, texts or raw");
     }
     if fields_by(alloc, matches, output)?.is_none() {
-        return Ok(wrong_fields(output, field_texts(matches)));
+        return Ok(wrong_fields(output, fields_given(matches)));
     }
     if files_by(alloc, matches)?.is_none() {
         return Ok("jp: a file's name has a control character");
@@ -193,15 +192,23 @@ fn wrong_value(alloc: Global, matches: &ArgMatches<'_>) -> Result<&'static str, 
     Ok("jp: a number is out of its range; try jp --help")
 }
 
-/// What is wrong with fields.
-fn wrong_fields(output: Output, given: &[&str]) -> &'static str {
+/// How often a field is given.
+fn fields_given(matches: &ArgMatches<'_>) -> usize {
+    match matches.get_strs("field") {
+        Some(given) => given.len(),
+        None => 0,
+    }
+}
+
+/// What is wrong with so many fields in this form.
+fn wrong_fields(output: Output, given: usize) -> &'static str {
     if !has_fields(output) {
         return "jp: --field goes with --output rows";
     }
-    if given.is_empty() {
+    if given == 0 {
         return "jp: --output rows takes --field FIELD, once or more";
     }
-    if given.len() > MAX_FIELDS {
+    if given > MAX_FIELDS {
         return "jp: --field is given 64 times at most";
     }
     "jp: --field takes a singular query of @, as @.name or @['a'][0]"

@@ -1,9 +1,9 @@
 //! What the command line asks for.
 
 ghost use Rattle.std.specs.Prelude.{◌≡◌, ◌≤◌, ◌^◌, ◌↔◌, ℕ, Bool, true, false, IfOk, IfErr, IfSome, IsNone};
-ghost use Rattle.std.specs.Prelude.{List, [], codes, map, unwrap_or};
+ghost use Rattle.std.specs.Prelude.{List, codes, map};
 ghost use Rattle.std.specs.List.{All};
-ghost use Rattle.clap.specs.Walk.{Text, all_of, texts};
+ghost use Rattle.clap.specs.Walk.{Text, texts};
 ghost use Rattle.clap.specs.Words.{app_of, found_of, rows_of, rule_of, new_app, FailsBy};
 ghost use Rattle.jp_output.specs.declared.layout.Ending.{Ending as End};
 ghost use Rattle.jp_run.specs.declared.output.Output.{Output as Form};
@@ -15,7 +15,7 @@ ghost use Rattle.jp_program.specs.CommandLine.{with_flags as flags_of, with_quer
 ghost use Rattle.jp_program.specs.inner.Invocation.{IsAsked, IsNotAsked, wanted_of};
 ghost use Rattle.jp_program.specs.Wanted.{Wanted as Wish, Says, SaysNumber, SaysFlag, SaysOutput, AreSaid};
 ghost use Rattle.jp_program.specs.Wanted.{IsName, SaysFiles, SaysNames, cuts_documents, has_decimals};
-ghost use Rattle.jp_program.specs.Wanted.{SaysEnding, SaysFields, ends_with_null, keeps_going};
+ghost use Rattle.jp_program.specs.Wanted.{AreFieldsOf, SaysEnding, SaysFields, ends_with_null, keeps_going};
 ghost use Rattle.jp_output.specs.Rows.{Path, field_of};
 
 use crate::output::{has_fields, is_of_values, output_of};
@@ -557,21 +557,27 @@ pub(crate) fn fields_by(
     ensures none { IfOk result (λ o. IsNone o → (fields : List Path)
         → SaysFields (rows_of (found_of matches.now)) output fields → ⊥) }
 {
-    let given = field_texts(matches);
+    match matches.get_strs("field") {
+        Some(given) => fields_of(alloc, given, output),
+        None => fields_of(alloc, &[], output),
+    }
+}
+
+/// The fields of these texts, in this form; none where there are none such.
+fn fields_of(
+    alloc: Global,
+    given: &[&str],
+    output: Output,
+) -> Result<Option<Vec<Field>>, AllocError>
+    ensures some { IfOk result (λ o. IfSome o (λ fields. AreFieldsOf (texts given.now) output
+        (map field_of fields.items))) }
+    ensures none { IfOk result (λ o. IsNone o → (fields : List Path)
+        → AreFieldsOf (texts given.now) output fields → ⊥) }
+{
     if given.is_empty() == has_fields(output) || given.len() > MAX_FIELDS {
         return Ok(None);
     }
     fields_in(alloc, given)
-}
-
-/// The texts of the option that takes a field, in the order of the words.
-pub(crate) fn field_texts<'m, 'a>(matches: &'m ArgMatches<'a>) -> &'m [&'a str]
-    ensures { texts result.now ≡ unwrap_or (all_of (codes "field") (rows_of (found_of matches.now))) [] }
-{
-    match matches.get_strs("field") {
-        Some(given) => given,
-        None => &[],
-    }
 }
 
 /// What ends values; none where that is not said, or U+0000 is to end what is no value.

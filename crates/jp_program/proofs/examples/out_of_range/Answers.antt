@@ -134,6 +134,7 @@ high_word Values h = let is : first (output_text Values) ≡ 118 = refl in omega
 high_word Texts h = let is : first (output_text Texts) ≡ 116 = refl in omega (arith, is)
 high_word Raw h = let is : first (output_text Raw) ≡ 114 = refl in omega (arith, is)
 high_word Nodes h = absurd (cc)
+high_word Rows h = absurd (cc)
 high_word Lines h = absurd (cc)
 
 not_ended : (word : Text) (o : Output) (e : Ending) (said null : Option Text) → said ≡ Some word
