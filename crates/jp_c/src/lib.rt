@@ -54,8 +54,8 @@ pub extern "C" fn jp_check(alloc: Global, query: &[u8], decimals: u32, place: &m
 
 /// Why the bytes are no query: the lines for a terminal that show where it goes wrong, and often what was
 /// meant. Their front goes into `out`, as much as there is room for, and `needed` is how long they are. Gives
-/// what `jp_check` gives. Of a query that is accepted, of bytes that are no UTF-8 and where memory was refused
-/// there is nothing to say: `needed` is 0, and `out` is as it was.
+/// what `jp_check` gives. Of a query that is accepted, of bytes that are no UTF-8 and where memory was
+/// refused there is nothing to say: `needed` is 0, and `out` is as it was.
 #[unsafe(no_mangle)]
 pub extern "C" fn jp_explain(
     alloc: Global,

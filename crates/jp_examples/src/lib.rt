@@ -12,6 +12,7 @@ mod documents;
 mod eval;
 mod examples;
 mod explain;
+mod field;
 mod flat;
 mod flat_nodes;
 mod found;

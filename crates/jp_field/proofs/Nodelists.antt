@@ -1,6 +1,8 @@
 -- What the nodelist of a singular query of `@` has.
-use Rattle.std.proofs.Common.{◌≡◌, ℕ, true, false, Bool, not, ◌&&◌, is_some, List, [], ◌∷◌, ◌++◌, map, Option, Some, None}
-use Rattle.std.proofs.Common.{ℤ, pos, negsuc, ◌≤◌, ◌-◌, ◌+◌, nat_lt, cond, length, arith, option_to_list, option_and_then, refl, sym, ap, ◌∙◌, append-nil, flat_map}
+use Rattle.std.proofs.Common.{◌≡◌, ℕ, true, false, Bool, not, ◌&&◌, is_some, List, [], ◌∷◌, ◌++◌, map}
+use Rattle.std.proofs.Common.{Option, Some, None}
+use Rattle.std.proofs.Common.{ℤ, pos, negsuc, ◌≤◌, ◌-◌, ◌+◌, nat_lt, cond, length, arith, option_to_list}
+use Rattle.std.proofs.Common.{option_and_then, refl, sym, ap, ◌∙◌, append-nil, flat_map}
 use Rattle.std.proofs.lemmas.Option.{same_Some, none-some}
 use Rattle.jp_doc.specs.Json.{Json, null, truth, number, text, array, object, item_list}
 use Rattle.jp_doc.specs.Location as at
@@ -22,7 +24,8 @@ both_some None p = refl
 both_some (Some s) None = refl
 both_some (Some s) (Some path) = refl
 
-selector_some : (x : tree.Selector) → is_some (step_in (tree.segment false (tree.add_selector x tree.no_selectors)))
+selector_some : (x : tree.Selector) → is_some (step_in (tree.segment false (tree.add_selector x
+    tree.no_selectors)))
     ≡ is_name_or_index x
 selector_some (tree.name k) = refl
 selector_some tree.wildcard = refl
@@ -117,7 +120,8 @@ module _ (tests : Tests) (root : Json) where
   values ns = map (λ (m : Node). m.value) ns
 
   abbrev Found : tree.Segments → Path → Type 0
-  Found ss path = (n : Node) → values (through tests root ss (n ∷ [])) ≡ option_to_list (field_value path n.value)
+  Found ss path = (n : Node) → values (through tests root ss (n ∷ [])) ≡ option_to_list (field_value path
+      n.value)
 
   led : (ss : tree.Segments) (path : Path) (at : Location) (o : Option Json) → Found ss path
       → values (through tests root ss (node_if_some at o))

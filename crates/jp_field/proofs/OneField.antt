@@ -1,6 +1,8 @@
 -- A text is one field at most.
-use Rattle.std.proofs.Common.{◌≡◌, ◌<◌, ◌≤◌, ◌+◌, ◌⊎◌, inl, inr, ℕ, zero, suc, List, [], ◌∷◌, ◌++◌, length, get_or, drop, map, Option, Some, None}
-use Rattle.std.proofs.Common.{Ok, Err, Result, refl, sym, ap, ap₂, ◌∙◌, subst, append_assoc, append-nil, arith}
+use Rattle.std.proofs.Common.{◌≡◌, ◌<◌, ◌≤◌, ◌+◌, ◌⊎◌, inl, inr, ℕ, zero, suc, List, [], ◌∷◌, ◌++◌, length}
+use Rattle.std.proofs.Common.{get_or, drop, map, Option, Some, None}
+use Rattle.std.proofs.Common.{Ok, Err, Result, refl, sym, ap, ap₂, ◌∙◌, subst, append_assoc, append-nil}
+use Rattle.std.proofs.Common.{arith}
 use Rattle.std.proofs.lemmas.List.{at_drop_more, at_drop_all, map-append}
 use Rattle.std.proofs.lemmas.Option.{same_Some, none-some}
 use Rattle.std.specs.Borrow.{Bor}
@@ -38,7 +40,8 @@ one_path t f g a b =
 
 refused_after : (rest : Text) (q : Query) (f : Path) (fault : QueryFault) → IsAccepted (36 ∷ rest) q
     → path_of q ≡ Some f → IsRefusedAfter rest fault → ⊥
-refused_after rest q f fault a p (inl h) = ok_err q fault (one_verdict Whole (36 ∷ rest) (Ok q) (Err fault) a h)
+refused_after rest q f fault a p (inl h) = ok_err q fault (one_verdict Whole (36 ∷ rest) (Ok q) (Err fault)
+    a h)
 refused_after rest q f fault a p (inr h) =
     none-some f (sym h.2 ∙ ap path_of (one_query (36 ∷ rest) h.0 q h.1 a) ∙ p)
 
@@ -59,14 +62,16 @@ one_each (t ∷ ts) fs gs a b =
 abbrev pub now : Bor (List ℕ) → List ℕ
 now t = t.now
 
-pub each_is : (ts : List (Bor (List ℕ))) (fs : List Path) (i : ℕ) (d : Bor (List ℕ)) → AreFields (map now ts) fs
+pub each_is : (ts : List (Bor (List ℕ))) (fs : List Path) (i : ℕ) (d : Bor (List ℕ)) → AreFields (map now
+    ts) fs
     → i < length ts → (f : Path) × IsFieldText (chars (get_or ts i d).now) f
 each_is [] fs i d a h = absurd (omega (arith, h))
 each_is (u ∷ ts) fs zero d a h = (a.0, a.3)
 each_is (u ∷ ts) fs (suc i) d a h = each_is ts a.1 i d a.4 (omega (arith, h))
 
 -- what stands for an item past the end does not matter
-same_item : (ts : List (Bor (List ℕ))) (i : ℕ) (d e : Bor (List ℕ)) → i < length ts → get_or ts i d ≡ get_or ts i e
+same_item : (ts : List (Bor (List ℕ))) (i : ℕ) (d e : Bor (List ℕ)) → i < length ts → get_or ts i d ≡ get_or
+    ts i e
 same_item [] i d e h = absurd (omega (arith, h))
 same_item (u ∷ ts) zero d e h = refl
 same_item (u ∷ ts) (suc i) d e h = same_item ts i d e (omega (arith, h))
@@ -83,7 +88,8 @@ module _ (ts : List (Bor (List ℕ))) (i : ℕ) where
   read_more d done more f h put field reads fs a =
       let t = get_or ts i d in
       let is : t ≡ get_or ts i t = same_item ts i d t h in
-      let here : AreFields (map now (drop i ts)) (field_of f ∷ fs) = subst (λ (u : List (List ℕ)). AreFields u (field_of f ∷ fs))
+      let here : AreFields (map now (drop i ts)) (field_of f ∷ fs) = subst (λ (u : List (List ℕ)). AreFields
+      u (field_of f ∷ fs))
       (sym (at_drop_more (map now) ts i t h ∙ ap (λ x. map now (x ∷ drop (i + 1) ts)) (sym is)))
       (field_of f, fs, refl, field, a) in
       subst (AreFields (map now ts))
@@ -92,6 +98,7 @@ module _ (ts : List (Bor (List ℕ))) (i : ℕ) where
       ∙ append_assoc (map field_of done) (field_of f ∷ []) fs))
       (reads (field_of f ∷ fs) here)
 
-  pub read_all : (done : List Field) → length ts ≤ i → Reads ts i done → AreFields (map now ts) (map field_of done)
+  pub read_all : (done : List Field) → length ts ≤ i → Reads ts i done → AreFields (map now ts) (map
+      field_of done)
   read_all done h reads = subst (AreFields (map now ts)) (append-nil (map field_of done))
       (reads [] (subst (λ (u : List (List ℕ)). AreFields u []) (sym (at_drop_all (map now) ts i h)) refl))

@@ -1,6 +1,8 @@
 -- The steps of compiled segments.
-use Rattle.std.proofs.Common.{◌≡◌, ◌<◌, ◌≤◌, ◌+◌, ◌⊎◌, inl, inr, ℕ, true, false, List, [], ◌∷◌, ◌++◌, length, get_or, drop, map}
-use Rattle.std.proofs.Common.{Option, Some, None, option_map, refl, sym, ap, ◌∙◌, arith, append_assoc, append-nil, rules}
+use Rattle.std.proofs.Common.{◌≡◌, ◌<◌, ◌≤◌, ◌+◌, ◌⊎◌, inl, inr, ℕ, true, false, List, [], ◌∷◌, ◌++◌}
+use Rattle.std.proofs.Common.{length, get_or, drop, map}
+use Rattle.std.proofs.Common.{Option, Some, None, option_map, refl, sym, ap, ◌∙◌, arith, append_assoc}
+use Rattle.std.proofs.Common.{append-nil, rules}
 use Rattle.std.proofs.lemmas.List.{at_drop_more, at_drop_all, map-append}
 use Rattle.jp_tree.specs.Tree as tree
 use Rattle.jp_compiled.specs.Parts.{Wanted, segment_in, segments_in, selector_in}
@@ -30,13 +32,15 @@ several (tree.slice a b c) y xs = refl
 several (tree.filter l) y xs = refl
 
 -- of one selector
-pub step_of_one : (roots : List Wanted) (s : CompiledSegment) (xs : List CompiledSelector) (x : CompiledSelector)
+pub step_of_one : (roots : List Wanted) (s : CompiledSegment) (xs : List CompiledSelector) (x :
+    CompiledSelector)
     (o : Option Step) → (out-CompiledSegment s).deep ≡ false → xs ≡ (out-CompiledSegment s).selectors.items
     → 1 ≤ length xs → length xs < 2 → x ≡ get_or xs 0 x
     → step_in (tree.child (selector_in roots x ∷ [])) ≡ o → step_in (segment_in roots s) ≡ o
 step_of_one roots s xs x o plain items low high is step =
     ap step_in (segment_is roots s
-    ∙ ap (λ d. tree.segment d (tree.selectors (map (selector_in roots) (out-CompiledSegment s).selectors.items)))
+    ∙ ap (λ d. tree.segment d (tree.selectors (map (selector_in roots) (out-CompiledSegment
+    s).selectors.items)))
     plain
     ∙ ap (λ ys. tree.segment false (tree.selectors (map (selector_in roots) ys)))
     (sym items ∙ one_is xs x low high is)) ∙ step
@@ -55,7 +59,8 @@ pub step_of_others : (roots : List Wanted) (s : CompiledSegment) (xs : List Comp
     → (length xs < 1) ⊎ (2 ≤ length xs) → step_in (segment_in roots s) ≡ None
 step_of_others roots s xs plain items other =
     ap step_in (segment_is roots s
-    ∙ ap (λ d. tree.segment d (tree.selectors (map (selector_in roots) (out-CompiledSegment s).selectors.items)))
+    ∙ ap (λ d. tree.segment d (tree.selectors (map (selector_in roots) (out-CompiledSegment
+    s).selectors.items)))
     plain
     ∙ ap (λ ys. tree.segment false (tree.selectors (map (selector_in roots) ys))) (sym items))
     ∙ none_of roots xs other
@@ -65,7 +70,8 @@ pub step_of_deep : (roots : List Wanted) (s : CompiledSegment) → (out-Compiled
     → step_in (segment_in roots s) ≡ None
 step_of_deep roots s deep =
     ap step_in (segment_is roots s
-    ∙ ap (λ d. tree.segment d (tree.selectors (map (selector_in roots) (out-CompiledSegment s).selectors.items)))
+    ∙ ap (λ d. tree.segment d (tree.selectors (map (selector_in roots) (out-CompiledSegment
+    s).selectors.items)))
     deep)
 
 -- the steps before others

@@ -12,7 +12,8 @@ use Rattle.jp_check.specs.Verdict.{IsAccepted, IsVerdict}
 -- what a segment of one name or one index selects, and nothing for another
 abbrev pub step_in : tree.Segment → Option Step
 step_in (tree.segment false (tree.add_selector (tree.name k) tree.no_selectors)) = Some (member k)
-step_in (tree.segment false (tree.add_selector (tree.index t) tree.no_selectors)) = Some (item (whole_number t))
+step_in (tree.segment false (tree.add_selector (tree.index t) tree.no_selectors)) =
+    Some (item (whole_number t))
 step_in _ = None
 
 -- a step before others, where there are all of them

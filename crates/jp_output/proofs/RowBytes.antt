@@ -107,7 +107,8 @@ module _ (v : Json) (r : HasJsonNumbers v) where
     feeds_behind fs,
   )
 
-pub row_tabs : (f : Path) (fs : List Path) (v : Json) → HasJsonNumbers v → times 9 (row (f ∷ fs) v) ≡ length fs
+pub row_tabs : (f : Path) (fs : List Path) (v : Json) → HasJsonNumbers v → times 9 (row (f ∷ fs) v) ≡ length
+    fs
 row_tabs f fs v r = omega (
   arith,
   times_both 9 (field_at v f) (behind_tabs fs v ++ 10 ∷ []),

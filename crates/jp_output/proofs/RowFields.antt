@@ -1,5 +1,6 @@
 -- The fields of a row, one after another.
-use Rattle.std.proofs.Common.{◌≡◌, ◌<◌, ◌≤◌, ◌+◌, ℕ, List, [], ◌∷◌, ◌++◌, length, get_or, drop, map, sym, ap, ◌∙◌}
+use Rattle.std.proofs.Common.{◌≡◌, ◌<◌, ◌≤◌, ◌+◌, ℕ, List, [], ◌∷◌, ◌++◌, length, get_or, drop, map, sym}
+use Rattle.std.proofs.Common.{ap, ◌∙◌}
 use Rattle.std.proofs.Common.{append_assoc, append-nil}
 use Rattle.std.proofs.lemmas.List.{at_drop_more, at_drop_all}
 use Rattle.jp_doc.specs.Json.{Json}
@@ -23,5 +24,6 @@ module _ (fs : List Field) (i : ℕ) (v : Json) where
 
   -- all are written
   pub no_more : (out : List ℕ) → length fs ≤ i → out ≡ out ++ behind_tabs (map field_of (drop i fs)) v
-  no_more out h = sym (ap (λ (t : List ℕ). out ++ t) (at_drop_all (λ gs. behind_tabs (map field_of gs) v) fs i h)
+  no_more out h = sym (ap (λ (t : List ℕ). out ++ t) (at_drop_all (λ gs. behind_tabs (map field_of gs) v) fs
+      i h)
       ∙ append-nil out)

@@ -123,9 +123,9 @@ pub fn raw_ended_by_null()
 {}
 
 /// A row has one tab fewer than fields, and one line feed, which is the last byte, of whatever node whose
-/// numbers are those of RFC 8259 (as all numbers of a document are), also where a text has tabs and line feeds,
-/// and where a field has no value. So rows can be cut at line feeds and each at its tabs, and there are as many
-/// as nodes.
+/// numbers are those of RFC 8259 (as all numbers of a document are), also where a text has tabs and line
+/// feeds, and where a field has no value. So rows can be cut at line feeds and each at its tabs, and there are
+/// as many as nodes.
 pub fn rows()
     ensures tabs { (f : Path) (fs : List Path) (n : Node) → HasJsonNumbers n.value
         → times 9 (row_line (f ∷ fs) n) ≡ length fs }

@@ -7,7 +7,8 @@ use jp_flat::LineReader;
 use jp_node::{Part, PathStack};
 use jp_number::Numbers;
 use jp_output::{
-    Ending, FieldList, Form, Head, InputLines, Layout, NodeLines, RawLines, TextLines, ValueLines, join_chunks,
+    Ending, FieldList, Form, Head, InputLines, Layout, NodeLines, RawLines, TextLines, ValueLines,
+    join_chunks,
 };
 use jp_probe_parts::{Row, fault_named, number_in, text_of};
 use serde::Serialize;
@@ -108,7 +109,14 @@ fn new_form<F: Form>(alloc: Global, row: Row<'_>) -> anyhow::Result<F> {
     } else {
         Ending::LineFeed
     };
-    Ok(F::new(alloc, &Layout { head, ending, fields: FieldList::none() }))
+    Ok(F::new(
+        alloc,
+        &Layout {
+            head,
+            ending,
+            fields: FieldList::none(),
+        },
+    ))
 }
 
 /// Has a form write a line of which nodes are visited, or one with a fault, which has no document.

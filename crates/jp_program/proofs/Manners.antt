@@ -33,7 +33,8 @@ numbering_so c d m n cutting before =
     ∙ ap (λ (z : ℕ). record { cutting = d; before = z }) before
 
 -- and so is a manner
-pub manner_so : (c d : Numbering) (o p : Output) (h k : List ℕ) (e f : Ending) (r s : List Path) (a b : Numbers)
+pub manner_so : (c d : Numbering) (o p : Output) (h k : List ℕ) (e f : Ending) (r s : List Path) (a b :
+    Numbers)
     (x y : OnFault) → c ≡ d → o ≡ p → h ≡ k → e ≡ f → r ≡ s → a ≡ b → x ≡ y
     → manner c (form_of o (laid_out h e r)) (policy a x) ≡ manner d (form_of p (laid_out k f s)) (policy b y)
 manner_so c d o p h k e f r s a b x y numbering output head ending fields numbers on_fault =

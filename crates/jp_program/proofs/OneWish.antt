@@ -178,7 +178,8 @@ one_wish words v w a b =
       ending = w.ending;
       fields = fs;
     })
-    (one_each (unwrap_or (all_of (codes "field") (said words)) []) v.fields w.fields a.1.fields.0 b.1.fields.0)
+    (one_each (unwrap_or (all_of (codes "field") (said words)) []) v.fields w.fields a.1.fields.0
+    b.1.fields.0)
     ∙ ap (λ (n : Numbers). record w {
       numbers = n;
       on_fault = v.on_fault;

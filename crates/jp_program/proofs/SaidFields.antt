@@ -1,5 +1,6 @@
 -- Which fields are said.
-use Rattle.std.proofs.Common.{◌≡◌, ◌∙◌, ◌≤◌, ◌<◌, ℕ, zero, suc, Bool, true, false, List, [], ◌∷◌, length, map, sym, ap, refl, arith, true≢false}
+use Rattle.std.proofs.Common.{◌≡◌, ◌∙◌, ◌≤◌, ◌<◌, ℕ, zero, suc, Bool, true, false, List, [], ◌∷◌, length}
+use Rattle.std.proofs.Common.{map, sym, ap, refl, arith, true≢false}
 use Rattle.std.proofs.Common.{Option, Some, None, Result, Ok, Err, IfOk}
 use Rattle.std.specs.Prelude.{IfSome, nat_lt, nat_eq}
 use Rattle.std.proofs.lemmas.Bool.{eqb-true, eqb-false, ltb-true, ltb-false}
@@ -26,7 +27,8 @@ are_of ts o fs some few a = (
 
 -- there are some, or none, as the form wants
 
-by_test : (n : ℕ) (none has some : Bool) → none ≡ nat_eq n 0 → nat_lt 0 n ≡ some → (none ≡ has → ⊥) → some ≡ has
+by_test : (n : ℕ) (none has some : Bool) → none ≡ nat_eq n 0 → nat_lt 0 n ≡ some → (none ≡ has → ⊥) → some ≡
+    has
 by_test n true true some is so differs = absurd (differs refl)
 by_test n false false some is so differs = absurd (differs refl)
 by_test n true false true is so differs = absurd (omega (arith, eqb-true n 0 (sym is), ltb-true 0 n so))
@@ -42,7 +44,8 @@ clash : (n : ℕ) (b : Bool) → b ≡ nat_eq n 0 → nat_lt 0 n ≡ b → ⊥
 clash n true e h = omega (arith, eqb-true n 0 (sym e), ltb-true 0 n h)
 clash n false e h = eqb-false n 0 (sym e) (omega (arith, ltb-false 0 n h))
 
-pub not_so : (ts : List (List ℕ)) (none has : Bool) (o : Output) (fs : List Path) → none ≡ nat_eq (length ts) 0
+pub not_so : (ts : List (List ℕ)) (none has : Bool) (o : Output) (fs : List Path) → none ≡ nat_eq (length
+    ts) 0
     → none ≡ has → has ≡ has_fields o → AreFieldsOf ts o fs → ⊥
 not_so ts none has o fs is same form a = clash (length ts) none is
     (ap (nat_lt 0) (sym (length_same ts fs a.0)) ∙ a.1 ∙ sym form ∙ sym same)
@@ -55,9 +58,11 @@ pub given_length : (given : List (Bor (List ℕ))) → length (texts given) ≡ 
 given_length given = length-map given (λ (s : Bor (List ℕ)). s.now)
 
 -- what is read is so
-pub are_read : {F E : Type 0} (r : Result (Option F) E) (view : F → List Path) (ts : List (List ℕ)) (o : Output)
+pub are_read : {F E : Type 0} (r : Result (Option F) E) (view : F → List Path) (ts : List (List ℕ)) (o :
+    Output)
     → nat_lt 0 (length ts) ≡ has_fields o → length ts ≤ 64
-    → IfOk r (λ x. IfSome x (λ fs. AreFields ts (view fs))) → IfOk r (λ x. IfSome x (λ fs. AreFieldsOf ts o (view fs)))
+    → IfOk r (λ x. IfSome x (λ fs. AreFields ts (view fs))) → IfOk r (λ x. IfSome x (λ fs. AreFieldsOf ts o
+    (view fs)))
 are_read (Ok (Some fs)) view ts o some few h = are_of ts o (view fs) some few h
 are_read (Ok None) view ts o some few h = h
 are_read (Err e) view ts o some few h = h

@@ -84,8 +84,9 @@ with_flags a = with_rule (with_rule (with_rule (with_rule (with_rule (with_rule 
 abbrev pub with_query : App → App
 with_query a = with_rule (with_rule a query_rule) files_rule
 
--- `jp [-o FORM] [--field QUERY]... [--where FILTER] [--workers N] [--piece N] [--batch N] [--first N] [--check]
--- [-d] [-k] [--explain] [-e] [--documents] [--with-filename] [-0] QUERY [FILE]...`, where `-o` is `--output`, `-d` is
+-- `jp [-o FORM] [--field QUERY]... [--where FILTER] [--workers N] [--piece N] [--batch N] [--first N]
+-- [--check] [-d] [-k] [--explain] [-e] [--documents] [--with-filename] [-0] QUERY [FILE]...`, where `-o` is
+-- `--output`, `-d` is
 -- `--decimals`, `-k` is `--keep-going`, `-e` is `--exit-status` and `-0` is `--null`; with `--help` and
 -- `--version`
 abbrev pub jp_app : App

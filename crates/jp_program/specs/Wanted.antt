@@ -24,7 +24,8 @@ use Rattle.jp_program.specs.CommandLine.{said, refusals, IsRefused}
 
 -- the query's text in scalar values, and that of a filter of documents, if there is one, the files by their
 -- names in bytes, whether lines are to name theirs, how each is cut into documents, whether what is asked is
--- only checked, what is written, what ends values, which fields rows have, which numbers documents, the query and the filter may
+-- only checked, what is written, what ends values, which fields rows have, which numbers documents, the
+-- query and the filter may
 -- have, what is done where a line is faulty, whether faulty lines are to be explained, whether the status
 -- tells that nothing was selected, the settings, and how many lines, or documents, stand before the first of
 -- each input

@@ -8,7 +8,8 @@ ghost use Rattle.clap.specs.Words.{app_of, found_of, rows_of, rule_of, new_app, 
 ghost use Rattle.jp_output.specs.declared.layout.Ending.{Ending as End};
 ghost use Rattle.jp_run.specs.declared.output.Output.{Output as Form};
 ghost use Rattle.jp_program.specs.CommandLine.{number_rule, flag_rule, letter_rule, query_rule, files_rule};
-ghost use Rattle.jp_program.specs.CommandLine.{field_rule, filter_rule, output_rule, said, refusals, with_version};
+ghost use Rattle.jp_program.specs.CommandLine.{field_rule, filter_rule, output_rule, said, refusals};
+ghost use Rattle.jp_program.specs.CommandLine.{with_version};
 ghost use Rattle.jp_program.specs.CommandLine.{with_output as output_option_of, with_numbers as numbers_of};
 ghost use Rattle.jp_program.specs.CommandLine.{with_filter as filter_option_of};
 ghost use Rattle.jp_program.specs.CommandLine.{with_flags as flags_of, with_query as query_of};

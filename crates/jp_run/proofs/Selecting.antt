@@ -61,7 +61,8 @@ row_some (f ∷ fs) v e =
 
 rows_some : (fs : List Path) (ns : List Node) → flat_map (row_line fs) ns ≡ [] → ns ≡ []
 rows_some fs [] e = refl
-rows_some fs (n ∷ ns) e = absurd (row_some fs n.value (front_none (row_line fs n) (flat_map (row_line fs) ns) e))
+rows_some fs (n ∷ ns) e = absurd (row_some fs n.value (front_none (row_line fs n) (flat_map (row_line fs)
+    ns) e))
 
 nothing_said : (o : Output) (layout : Layout) (l : Line) (ns : List Node)
     → (form_of o layout).of_document l ns ≡ [] → ns ≡ []

@@ -12,8 +12,8 @@ pub enum Output {
     Texts,
     /// The same, but a text stands as it is, line feeds and all.
     Raw,
-    /// A line for each node: the fields of the settings with tabs between, each as by `Texts`, and nothing where
-    /// a field has no value. A faulty line has none.
+    /// A line for each node: the fields of the settings with tabs between, each as by `Texts`, and nothing
+    /// where a field has no value. A faulty line has none.
     Rows,
     /// The document's line as it came, where at least one node is selected. A faulty line has none.
     Lines,

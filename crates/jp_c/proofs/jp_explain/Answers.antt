@@ -12,7 +12,8 @@ returns-in-Ok-plan_in c = accepted_unsaid c.numbers_by-numbers.result (by.number
 
 pub returns : goal.returns
 returns c = explained_so c.numbers_by-numbers.result (by.numbers_by c.args.decimals) c.in-Ok.text.now
-    c.args.query.now c.numbers_by-numbers.ensures c.in-Ok.ensures.cases.0 c.args.out.now c.copy_front.new.buffer
+    c.args.query.now c.numbers_by-numbers.ensures c.in-Ok.ensures.cases.0 c.args.out.now
+    c.copy_front.new.buffer
     (string_bytes c.in-Ok-write_mark.lines) _ c.query_code.result c.in-Err.fault
     c.in-Err.ensures.fault c.in-Ok-write_mark.ensures.shown
     (subst (λ b. IsFilledBy b c.args.out.now c.copy_front.new.buffer) c.as_bytes-bytes.ensures.value

@@ -35,7 +35,8 @@ returns-clause-fault c = λ other.
         subst (λ (t : Text). IsAccepted t q) (ap chars c.as_str.ensures.value ∙ root.2)
             c.in_ok-plan.ensures.ok,
         ap path_of (sym c.compiled.ensures)
-            ∙ ap (λ (ss : List CompiledSegment). path_in (segments_in roots ss)) (sym c.as_slice.ensures.value)
+            ∙ ap (λ (ss : List CompiledSegment). path_in (segments_in roots ss)) (sym
+            c.as_slice.ensures.value)
             ∙ c.in_ok-field.ensures roots ∙ ap (option_map field_of) c.in-None.is,
         refl,
       ),

@@ -6,13 +6,15 @@ use Rattle.jp_field.proofs.OneField.{each_is, not_refused, now, read_all, read_m
 use Rattle.jp_field.proofs.field_text.fields_in.Goals as goal
 
 pub loop-text-init : goal.loop-text-init
-loop-text-init c = λ fs a. subst (λ (done : List Field). AreFields (map now c.args.texts.now) (map field_of done ++ fs))
+loop-text-init c = λ fs a. subst (λ (done : List Field). AreFields (map now c.args.texts.now) (map field_of
+    done ++ fs))
     (sym c.in_ok-fields.ensures.items) a
 
 pub loop-text-preserved : goal.loop-text-preserved
 loop-text-preserved c =
     let h : c.loop-text.text-index < length c.args.texts.now = search (rules, arith) in
-    read_more c.args.texts.now c.loop-text.text-index _ c.loop-text.fields.items c.push.new.self.items c.in-Ok.field
+    read_more c.args.texts.now c.loop-text.text-index _ c.loop-text.fields.items c.push.new.self.items
+    c.in-Ok.field
     h c.in_ok-push-in-Ok.ensures.items (rw c.in-Ok.is at c.in_ok-field.ensures.ok) c.loop-text.invariant
 
 pub returns-in-Err : goal.returns-in-Err

@@ -12,7 +12,8 @@ returns-in-len1 c = IfOk-weaker c.step_of_selector.result _ _
     (h roots)) c.step_of_selector.ensures
 
 pub returns-in_default : goal.returns-in_default
-returns-in_default c = λ roots. step_of_others roots c.args.segment.now c.as_slice.result.now c.if-segment.false
+returns-in_default c = λ roots. step_of_others roots c.args.segment.now c.as_slice.result.now
+    c.if-segment.false
     c.as_slice.ensures.value
     (elim c.in_default.branch [
       | in_default-via-then-as_slice-lt1 w ↦ inl (search (rules, arith))

@@ -15,8 +15,10 @@ returns-in-Some c =
     let are = texts_some (codes "field") (rows_of found) c.get_strs.result
     (c.get_strs.ensures ∙ raw_values-rows found (codes "field")) c.in-Some.given c.in-Some.is in
     record {
-      some = subst (λ (ts : List Text). IfOk c.fields_of.result (λ o. IfSome o (λ fields. AreFieldsOf ts c.args.output (map field_of fields.items)))) are c.fields_of.ensures.some;
-      none = subst (λ (ts : List Text). IfOk c.fields_of.result (λ o. IsNone o → (fields : List Path) → AreFieldsOf ts c.args.output fields → ⊥)) are c.fields_of.ensures.none;
+      some = subst (λ (ts : List Text). IfOk c.fields_of.result (λ o. IfSome o (λ fields. AreFieldsOf ts
+          c.args.output (map field_of fields.items)))) are c.fields_of.ensures.some;
+      none = subst (λ (ts : List Text). IfOk c.fields_of.result (λ o. IsNone o → (fields : List Path) →
+          AreFieldsOf ts c.args.output fields → ⊥)) are c.fields_of.ensures.none;
     }
 
 pub returns-in-None : goal.returns-in-None
@@ -25,6 +27,8 @@ returns-in-None c =
     let are = texts_none (codes "field") (rows_of found) c.get_strs.result
     (c.get_strs.ensures ∙ raw_values-rows found (codes "field")) c.in-None.is in
     record {
-      some = subst (λ (ts : List Text). IfOk c.fields_of-in-None.result (λ o. IfSome o (λ fields. AreFieldsOf ts c.args.output (map field_of fields.items)))) are c.fields_of-in-None.ensures.some;
-      none = subst (λ (ts : List Text). IfOk c.fields_of-in-None.result (λ o. IsNone o → (fields : List Path) → AreFieldsOf ts c.args.output fields → ⊥)) are c.fields_of-in-None.ensures.none;
+      some = subst (λ (ts : List Text). IfOk c.fields_of-in-None.result (λ o. IfSome o (λ fields.
+          AreFieldsOf ts c.args.output (map field_of fields.items)))) are c.fields_of-in-None.ensures.some;
+      none = subst (λ (ts : List Text). IfOk c.fields_of-in-None.result (λ o. IsNone o → (fields : List
+          Path) → AreFieldsOf ts c.args.output fields → ⊥)) are c.fields_of-in-None.ensures.none;
     }

@@ -5,7 +5,11 @@ use Rattle.jp_output.specs.declared.field.Field.{Field}
 use Rattle.jp_program.proofs.SaidFields.{are_read, given_length, not_so, some_so, too_many}
 use Rattle.jp_program.proofs.command_line.fields_of.Goals as goal
 use Rattle.jp_program.proofs.command_line.fields_of.Goals.{then-is_empty-has_fields-via-then-is_empty-has_fields}
+use Rattle.jp_program.proofs.command_line.fields_of.Goals.{}
+use Rattle.jp_program.proofs.command_line.fields_of.Goals.{}
 use Rattle.jp_program.proofs.command_line.fields_of.Goals.{then-is_empty-has_fields-via-else-is_empty-has_fields+then-given-gt-MAX_FIELDS}
+use Rattle.jp_program.proofs.command_line.fields_of.Goals.{}
+use Rattle.jp_program.proofs.command_line.fields_of.Goals.{}
 
 pub returns-then-is_empty-has_fields-clause-none : goal.returns-then-is_empty-has_fields-clause-none
 returns-then-is_empty-has_fields-clause-none c = λ h fs a.

@@ -15,7 +15,8 @@ returns-then-wanted-clause-manner c =
     (head_named c.args.wanted.now.names c.args.name c.with_name.result.name c.if-wanted.true
     c.with_name.ensures.name) (same.9 ∙ first.9)
     (ap (λ (fs : Bor (List Field)). map field_of fs.now) (same.10 ∙ c.with_fields-settings.ensures.fields)
-    ∙ ap (λ (fs : List Field). map field_of fs) c.as_slice.ensures.value) (same.4 ∙ first.4) (same.3 ∙ first.3)
+    ∙ ap (λ (fs : List Field). map field_of fs) c.as_slice.ensures.value) (same.4 ∙ first.4) (same.3 ∙
+    first.3)
 
 pub returns-else-wanted-clause-manner : goal.returns-else-wanted-clause-manner
 returns-else-wanted-clause-manner c =
@@ -26,4 +27,5 @@ returns-else-wanted-clause-manner c =
     (head_unnamed c.args.wanted.now.names c.args.name c.with_name-else-wanted.result.name c.if-wanted.false
     c.with_name-else-wanted.ensures.name) (same.9 ∙ first.9)
     (ap (λ (fs : Bor (List Field)). map field_of fs.now) (same.10 ∙ c.with_fields-settings.ensures.fields)
-    ∙ ap (λ (fs : List Field). map field_of fs) c.as_slice.ensures.value) (same.4 ∙ first.4) (same.3 ∙ first.3)
+    ∙ ap (λ (fs : List Field). map field_of fs) c.as_slice.ensures.value) (same.4 ∙ first.4) (same.3 ∙
+    first.3)
