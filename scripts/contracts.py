@@ -77,6 +77,14 @@ GROUPS = [
         ("jp_output", "src/laws", "values_ended_by_null"),
         ("jp_output", "src/laws", "raw_ended_by_null"),
     ]),
+    ("With `rows` a node gives one line, its fields with tabs between", FURTHER, [
+        ("jp_output", "src/laws", "rows"),
+    ]),
+    ("A field is the value in the nodelist of its query, where `@` is the node", FURTHER, [
+        ("jp_field", "src/laws", "values_of_nodelists"),
+        ("jp_field", "src/laws", "singular_queries"),
+        ("jp_field", "src/laws", "one_field"),
+    ]),
     ("With `lines` each line of the input with a selected node stands once, byte for byte as it came", FURTHER, [
         ("jp_output", "src/laws", "lines_with_nodes"),
         ("jp_output", "src/laws", "lines_of_first_fields"),
