@@ -85,6 +85,7 @@ fn settings_by<'f>(options: &Options, form: Output, filter: Option<&'f str>) -> 
         output: form,
         ending: Ending::LineFeed,
         name: None,
+        fields: &[],
         filter,
     }
 }
