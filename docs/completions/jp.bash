@@ -10,7 +10,7 @@ _jp() {
     case $before in
         -o | --output)
             compopt +o default
-            mapfile -t COMPREPLY < <(compgen -W 'nodes values texts raw lines' -- "$word")
+            mapfile -t COMPREPLY < <(compgen -W 'nodes values texts raw rows lines' -- "$word")
             return
             ;;
         --field | --where | --quote | --workers | --piece | --batch | --first)

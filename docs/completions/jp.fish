@@ -1,5 +1,5 @@
 # Completion of jp in fish: its options, and else file names. A query is written by hand.
-complete -c jp -s o -l output -x -a 'nodes values texts raw lines' -d 'what is written'
+complete -c jp -s o -l output -x -a 'nodes values texts raw rows lines' -d 'what is written'
 complete -c jp -l field -x -d 'with rows: a column, as @.name; given as often'
 complete -c jp -l where -x -d 'answer only documents of which this is true'
 complete -c jp -l workers -x -d 'how many threads answer at once, 1 to 64'

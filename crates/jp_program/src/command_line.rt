@@ -233,7 +233,7 @@ fn output<'a>(alloc: Global) -> Arg<'a>
         .long("output")
         .value_name("FORM")
         .default_value("nodes")
-        .help("Form: nodes, values, texts, raw, rows, lines")
+        .help("nodes, values, texts, raw, rows, lines")
 }
 
 /// The option that takes a field.
