@@ -77,6 +77,9 @@ GROUPS = [
         ("jp_output", "src/laws", "values_ended_by_null"),
         ("jp_output", "src/laws", "raw_ended_by_null"),
     ]),
+    ("With `-c` each input has one line, behind its name and a tab where lines have theirs", FURTHER, [
+        ("jp_program", "src/laws", "counts_are_nodes"),
+    ]),
     ("With `rows` a node gives one line, its fields with tabs between", FURTHER, [
         ("jp_output", "src/laws", "rows"),
     ]),

@@ -20,8 +20,8 @@ _jp() {
     esac
     if [[ $word != -* ]]; then return; fi
     local options='--output --field --where --workers --piece --batch --first --check --decimals --keep-going'
-    options+=' --explain --exit-status --documents --with-filename --null --quote --help --version'
-    options+=' -o -d -k -e -0 -h -V'
+    options+=' --explain --exit-status --documents --with-filename --null --count --quote --help --version'
+    options+=' -o -d -k -e -0 -c -h -V'
     mapfile -t COMPREPLY < <(compgen -W "$options" -- "$word")
 }
 # Where the function offers nothing, as behind < and >, bash completes file names.

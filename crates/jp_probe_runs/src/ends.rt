@@ -3,7 +3,7 @@
 ghost use Rattle.std.specs.Prelude.{◌≡◌, ◌<◌, ◌≤◌, ◌++◌, [], Some, None, false, IfOk, length, take};
 
 use jp_probe_parts::{Row, flag_in, items_in, number_in};
-use jp_run::{Broken, Sink, Source, Supply};
+use jp_run::{Broken, Nowhere, Sink, Source, Supply};
 use serde_json::Value;
 use std::alloc::{AllocError, Global};
 use std::io::{self, ErrorKind, Read, Write};
@@ -170,18 +170,43 @@ impl Supply for Memory<'_> {
     }
 }
 
-impl Source<Kept> for Memory<'_> {
-    fn read(&mut self, buf: &mut [u8], sink: &Kept) -> Result<usize, Broken> {
+/// A sink that tells what it has.
+pub trait Telling: Sink {
+    /// How many lines it has.
+    fn lines(&self) -> u64;
+
+    /// How many bytes it has, and how many of them it has passed on.
+    fn bytes(&self) -> (u64, u64);
+}
+
+impl Telling for Kept {
+    fn lines(&self) -> u64 {
+        line_ends(&self.bytes)
+    }
+
+    fn bytes(&self) -> (u64, u64) {
+        (self.bytes.len() as u64, self.passed_on as u64)
+    }
+}
+
+impl Telling for Nowhere {
+    fn lines(&self) -> u64 {
+        0
+    }
+
+    fn bytes(&self) -> (u64, u64) {
+        (0, 0)
+    }
+}
+
+impl<K: Telling> Source<K> for Memory<'_> {
+    fn read(&mut self, buf: &mut [u8], sink: &K) -> Result<usize, Broken> {
         if self.line > 0 {
-            let answered = line_ends(&sink.bytes).saturating_mul(self.line);
+            let answered = sink.lines().saturating_mul(self.line);
             self.waiting = self.waiting.max(self.given.saturating_sub(answered));
         }
-        let seen = (
-            self.told_ready,
-            self.given,
-            sink.bytes.len() as u64,
-            sink.passed_on as u64,
-        );
+        let (bytes, passed_on) = sink.bytes();
+        let seen = (self.told_ready, self.given, bytes, passed_on);
         self.reads = self.reads.saturating_add(1);
         self.told_ready = false;
         if self.reads == self.fails_at {

@@ -7,7 +7,7 @@ use crate::ends::{Failing, Kept, Memory, Reading, Taking, line_ends};
 use crate::settings::FaultAnswer;
 use jp_probe_parts::{Row, items_in, text_in};
 use jp_program::{Inputs, refuse_words};
-use jp_run::{Broken, FromReader, FromWriter, Sink, Source, Supply};
+use jp_run::{Broken, FromReader, FromWriter, Nowhere, Sink, Source, Supply};
 use serde::Serialize;
 use serde_json::Value;
 use std::alloc::{AllocError, AllocGlobal, Global};
@@ -176,7 +176,7 @@ impl<'a> Inputs<FromReader<Memory<'a>>> for Shelf<'a> {
 /// The command. It promises nothing here.
 fn program_unpromised<
     R: Threads + AllocGlobal + Sync,
-    S: Source<K>,
+    S: Source<K> + Source<Nowhere>,
     I: Inputs<S>,
     K: Sink,
     N: Sink,

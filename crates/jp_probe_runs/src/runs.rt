@@ -304,7 +304,7 @@ fn totals_of(end: &Result<Totals, RunFault>) -> Option<(u64, u64, u64)> {
 /// Whether it wrote, where it ended well.
 fn wrote_of(end: &Result<Totals, RunFault>) -> Option<bool> {
     match end {
-        Ok(totals) => Some(totals.wrote),
+        Ok(totals) => Some(totals.wrote > 0),
         Err(_) => None,
     }
 }

@@ -1,3 +1,4 @@
+mod Counted
 mod Fields
 mod Going
 mod Manners

@@ -146,6 +146,16 @@ one_wish words v w a b =
       check = c;
     })
     (flag_same v.check w.check (sym a.1.check ∙ b.1.check))
+    ∙ ap (λ (c : Bool). record v {
+      query = w.query;
+      filter = w.filter;
+      files = w.files;
+      names = w.names;
+      cutting = w.cutting;
+      check = w.check;
+      counts = c;
+    })
+    (flag_same v.counts w.counts (sym a.1.counts.0 ∙ b.1.counts.0))
     ∙ ap (λ (o : Output). record v {
       query = w.query;
       filter = w.filter;
@@ -153,6 +163,7 @@ one_wish words v w a b =
       names = w.names;
       cutting = w.cutting;
       check = w.check;
+      counts = w.counts;
       output = o;
     })
     (output_same v.output w.output (sym a.1.output ∙ b.1.output))
@@ -163,6 +174,7 @@ one_wish words v w a b =
       names = w.names;
       cutting = w.cutting;
       check = w.check;
+      counts = w.counts;
       output = w.output;
       ending = e;
     })
@@ -174,6 +186,7 @@ one_wish words v w a b =
       names = w.names;
       cutting = w.cutting;
       check = w.check;
+      counts = w.counts;
       output = w.output;
       ending = w.ending;
       fields = fs;

@@ -3,14 +3,15 @@ use Rattle.std.proofs.Common.{◌≡◌, ◌∙◌, ℕ, ◌<◌, ◌≤◌, ◌
 use Rattle.std.proofs.Common.{◌∷◌, length, map}
 use Rattle.std.proofs.Common.{Option, Some, None, IfSome, Result, Ok, Err, IfOk, IfErr, OnOk, OnErr}
 use Rattle.std.proofs.Common.{refl, subst, sym, ap, arith, Vec, Global, vec_len}
-use Rattle.std.proofs.KnownBytes.{Consumes-nil}
+use Rattle.std.proofs.KnownBytes.{Consumes-nil, Keeps-refl}
 use Rattle.std.proofs.lemmas.List.Elements.{All-nil, All-cons, All-head}
 use Rattle.std.proofs.lemmas.Grind.{common_steps}
-use Rattle.std.specs.Prelude.{IsErrOf, nat_lt, ◌==◌}
-use Rattle.std.specs.Io.KnownBytes.{IsAtEnd, Consumes}
+use Rattle.std.specs.Prelude.{IsErrOf, ◌==◌}
+use Rattle.std.specs.Io.KnownBytes.{IsAtEnd, Consumes, Keeps}
 use Rattle.std.proofs.Math.ListN.{length-map}
 use Rattle.std.specs.Borrow.{Bor}
 use Rattle.clap.specs.Walk.{Text, texts}
+use Rattle.jp_doc.specs.Lines.{Line}
 use Rattle.jp_doc.specs.declared.fault.DocFault.{DocFault}
 use Rattle.jp_number.specs.declared.numbers.Numbers.{Numbers}
 use Rattle.jp_pattern.proofs.RightTests.{right_tests}
@@ -24,7 +25,7 @@ use Rattle.jp_run.specs.AskedTexts.{AreAcceptedIn, AskedTexts}
 use Rattle.jp_run.specs.Answered.{IsAnswerBy}
 use Rattle.jp_run.specs.Counts.{counted}
 use Rattle.jp_run.specs.Cutting.{Numbering, documents, documents_in}
-use Rattle.jp_run.specs.Handed.{Handed}
+use Rattle.jp_run.specs.Handed.{Handed, IsHandedBy}
 use Rattle.jp_run.specs.Status.{status_of}
 use Rattle.jp_run.specs.declared.cutting.Cutting.{Cutting}
 use Rattle.jp_run.specs.declared.cutting.Cutting.TheVariants.{Lines, Documents}
@@ -42,7 +43,7 @@ use Rattle.jp_program.specs.Outcome.{IsTaken, IsAnswered, ArePassed, Passes, IsF
 use Rattle.jp_program.specs.Outcome.{AreFailed, IsWholeOrCut, Left, AreAllReads, AreOpened, AreTooManyLines}
 use Rattle.jp_program.specs.Outcome.{IsRefusedWish, asked_in, ends_run, left_of, manner_for, reads_before}
 use Rattle.jp_program.specs.Outcome.{IsEmptyAnswer, IsKnownEmptyAnswer, AreEmptyAnswers}
-use Rattle.jp_program.specs.Outcome.{AreKnownEmptyAnswers, numbering_in}
+use Rattle.jp_program.specs.Outcome.{AreKnownEmptyAnswers, IsHanded, numbering_in}
 use Rattle.jp_program.specs.Wanted.{Wanted, WantsRun}
 use Rattle.jp_program.specs.declared.command_line.Invocation.{Invocation}
 use Rattle.jp_program.specs.declared.command_line.Invocation.TheVariants.{Query}
@@ -97,6 +98,12 @@ no_documents_if Documents before = refl
 no_documents : (n : Numbering) → documents_in n [] ≡ []
 no_documents n = no_documents_if n.cutting n.before
 
+-- where nothing was written nothing was handed to a count
+unhanded : (counts : Bool) (going : Manner) (asked : AskedTexts) (ls : List Line) (old new : Option (List ℕ))
+    → new ≡ old → IsHandedBy going asked ls None old new → IsHanded counts going asked ls old new
+unhanded true going asked ls old new same h = subst (Keeps old) (sym same) (Keeps-refl old)
+unhanded false going asked ls old new same h = h
+
 -- how one run over an input ended, in the words of what was wanted
 module _ (w : Wanted) (e : Left) (input : Input) (old new : Option (List ℕ)) where
   pub run_ended : (r : Result Totals RunFault)
@@ -132,14 +139,15 @@ module _ (w : Wanted) (e : Left) (input : Input) (old new : Option (List ℕ)) w
       failed,
       [],
       subst (λ o. Consumes input.1 o []) (sym rest) (Consumes-nil input.1),
-      (
-        taken.0,
-        taken.1,
-        subst (λ l. Handed (manner_for w input.0 w.on_fault) taken.0 l None old new)
-            (sym (no_documents (numbering_in w)))
-            (subst (λ o. Handed (manner_for w input.0 w.on_fault) taken.0 [] None old o) (sym same)
-            (handed_none (manner_for w input.0 w.on_fault) taken.0 old)),
-      ),
+      unhanded w.counts (manner_for w input.0 w.on_fault) (asked_in w) (documents_in (numbering_in w) []) old
+          new same (
+            taken.0,
+            taken.1,
+            subst (λ l. Handed (manner_for w input.0 w.on_fault) taken.0 l None old new)
+                (sym (no_documents (numbering_in w)))
+                (subst (λ o. Handed (manner_for w input.0 w.on_fault) taken.0 [] None old o) (sym same)
+                (handed_none (manner_for w input.0 w.on_fault) taken.0 old)),
+          ),
     ),
   )
 
@@ -354,16 +362,16 @@ module _ (w : Wanted) (some : 0 < length w.files) (holds : Text → Held) (first
       × ArePassed w xs old new)) (sym (all_named w.files holds first some)) h
 
   pub nothing_files : (r : Result Totals RunFault)
-      → IfOk r (λ totals. totals.wrote ≡ false → AreEmptyAnswers w (map (named holds) w.files))
-      → IfOk r (λ totals. totals.wrote ≡ false → AreEmptyAnswers w (inputs_of w.files holds first))
-  nothing_files r h = subst (λ xs. IfOk r (λ totals. totals.wrote ≡ false → AreEmptyAnswers w xs))
+      → IfOk r (λ totals. totals.wrote ≡ 0 → AreEmptyAnswers w (map (named holds) w.files))
+      → IfOk r (λ totals. totals.wrote ≡ 0 → AreEmptyAnswers w (inputs_of w.files holds first))
+  nothing_files r h = subst (λ xs. IfOk r (λ totals. totals.wrote ≡ 0 → AreEmptyAnswers w xs))
       (sym (all_named w.files holds first some)) h
 
   pub something_files : (r : Result Totals RunFault)
-      → IfOk r (λ totals. totals.wrote ≡ true → AreKnownEmptyAnswers w (map (named holds) w.files) → ⊥)
-      → IfOk r (λ totals. totals.wrote ≡ true
+      → IfOk r (λ totals. 0 < totals.wrote → AreKnownEmptyAnswers w (map (named holds) w.files) → ⊥)
+      → IfOk r (λ totals. 0 < totals.wrote
       → AreKnownEmptyAnswers w (inputs_of w.files holds first) → ⊥)
-  something_files r h = subst (λ xs. IfOk r (λ totals. totals.wrote ≡ true → AreKnownEmptyAnswers w xs → ⊥))
+  something_files r h = subst (λ xs. IfOk r (λ totals. 0 < totals.wrote → AreKnownEmptyAnswers w xs → ⊥))
       (sym (all_named w.files holds first some)) h
 
 names_long : (names : List (Bor Text)) → length (texts names) ≡ length names
@@ -404,12 +412,12 @@ opened_none w none n b few = (subst (λ fs. n ≡ counted n (length fs)) (sym no
 
 -- whether anything was selected
 
-is_empty : (bytes : List ℕ) → nat_lt 0 (length bytes) ≡ false → bytes ≡ []
+is_empty : (bytes : List ℕ) → counted 0 (length bytes) ≡ 0 → bytes ≡ []
 is_empty [] e = refl
-is_empty (b ∷ bytes) e = let some : 0 < length (b ∷ bytes) = omega arith in absurd (grind (arith, e, some))
+is_empty (b ∷ bytes) e = absurd (omega (arith, e))
 
 -- the answer to what is asked is one
-one_answer : (going : Manner) (asked : AskedTexts) (input : List ℕ) (a b : Answer)
+pub one_answer : (going : Manner) (asked : AskedTexts) (input : List ℕ) (a b : Answer)
     → IsAnswerBy going asked input a → IsAnswerBy going asked input b → a ≡ b
 one_answer going asked input a b h k =
     let same : h.0 ≡ k.0 = one_asked going.policy.numbers asked h.0 k.0 h.1 k.1 in
@@ -418,33 +426,32 @@ one_answer going asked input a b h k =
     ∙ k.2 right_tests.0 right_tests.1
 
 module _ (w : Wanted) where
-  abbrev pub Tells : Input → Bool → Type 0
+  abbrev pub Tells : Input → ℕ → Type 0
   Tells input wrote = IfSome input.1 (λ bytes. (a : Answer)
       × IsAnswerBy (manner_for w input.0 w.on_fault) (asked_in w) bytes a
-      × (wrote ≡ nat_lt 0 (length a.bytes)))
+      × (wrote ≡ counted 0 (length a.bytes)))
 
-  nothing_known : (input : Input) (wrote : Bool) → Tells input wrote → wrote ≡ false → IsEmptyAnswer w input
+  nothing_known : (input : Input) (wrote : ℕ) → Tells input wrote → wrote ≡ 0 → IsEmptyAnswer w input
   nothing_known (name, None) wrote h e = tt
   nothing_known (name, Some bytes) wrote h e = (h.0, h.1, is_empty h.0.bytes (sym h.2 ∙ e))
 
-  something_known : (input : Input) (wrote : Bool) → Tells input wrote → wrote ≡ true
+  something_known : (input : Input) (wrote : ℕ) → Tells input wrote → 0 < wrote
       → IsKnownEmptyAnswer w input → ⊥
   something_known (name, None) wrote h e k = k
   something_known (name, Some bytes) wrote h e k =
       let same : h.0 ≡ k.0 = one_answer (manner_for w name w.on_fault) (asked_in w) bytes h.0 k.0 h.1 k.1
       in
-      let none : nat_lt 0 (length h.0.bytes) ≡ false =
-      ap (λ (a : Answer). nat_lt 0 (length a.bytes)) same ∙ ap (λ bs. nat_lt 0 (length bs)) k.2 in
-      absurd (let is : true ≡ false = sym e ∙ h.2 ∙ none in cc)
+      let none : length h.0.bytes ≡ 0 = ap (λ (a : Answer). length a.bytes) same ∙ ap length k.2 in
+      omega (arith, e, h.2, none)
 
   pub nothing_ok : (input : Input) (r : Result Totals RunFault) → IfOk r (λ totals. Tells input totals.wrote)
-      → IfOk r (λ totals. totals.wrote ≡ false → IsEmptyAnswer w input)
+      → IfOk r (λ totals. totals.wrote ≡ 0 → IsEmptyAnswer w input)
   nothing_ok input (Ok totals) h = nothing_known input totals.wrote h
   nothing_ok input (Err fault) h = tt
 
   pub something_ok : (input : Input) (r : Result Totals RunFault)
       → IfOk r (λ totals. Tells input totals.wrote)
-      → IfOk r (λ totals. totals.wrote ≡ true → IsKnownEmptyAnswer w input → ⊥)
+      → IfOk r (λ totals. 0 < totals.wrote → IsKnownEmptyAnswer w input → ⊥)
   something_ok input (Ok totals) h = something_known input totals.wrote h
   something_ok input (Err fault) h = tt
 
@@ -454,15 +461,15 @@ module _ (w : Wanted) where
     inputs_alone = ap (λ fs. inputs_of fs holds first) none
 
     pub nothing_alone : (r : Result Totals RunFault)
-        → IfOk r (λ totals. totals.wrote ≡ false → IsEmptyAnswer w (standard first))
-        → IfOk r (λ totals. totals.wrote ≡ false → AreEmptyAnswers w (inputs_of w.files holds first))
+        → IfOk r (λ totals. totals.wrote ≡ 0 → IsEmptyAnswer w (standard first))
+        → IfOk r (λ totals. totals.wrote ≡ 0 → AreEmptyAnswers w (inputs_of w.files holds first))
     nothing_alone (Ok totals) h = λ e. subst (AreEmptyAnswers w) (sym inputs_alone)
         (All-cons (IsEmptyAnswer w) (standard first) [] (h e) (All-nil (IsEmptyAnswer w)))
     nothing_alone (Err fault) h = tt
 
     pub something_alone : (r : Result Totals RunFault)
-        → IfOk r (λ totals. totals.wrote ≡ true → IsKnownEmptyAnswer w (standard first) → ⊥)
-        → IfOk r (λ totals. totals.wrote ≡ true
+        → IfOk r (λ totals. 0 < totals.wrote → IsKnownEmptyAnswer w (standard first) → ⊥)
+        → IfOk r (λ totals. 0 < totals.wrote
         → AreKnownEmptyAnswers w (inputs_of w.files holds first) → ⊥)
     something_alone (Ok totals) h = λ e all. h e (All-head (IsKnownEmptyAnswer w) (standard first) []
         (subst (AreKnownEmptyAnswers w) inputs_alone all))

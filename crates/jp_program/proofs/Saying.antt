@@ -12,7 +12,7 @@ use Rattle.jp_run.specs.declared.output.Output.{Output}
 use Rattle.jp_output.specs.declared.layout.Ending.{Ending}
 use Rattle.jp_output.specs.declared.layout.Ending.TheVariants.{LineFeed, Null}
 use Rattle.jp_program.specs.Wanted.{SaysNumber, SaysFlag, flag_text, SaysOutput, SaysEnding, GoesWith}
-use Rattle.jp_program.specs.Wanted.{ends_with_null, is_of_values}
+use Rattle.jp_program.specs.Wanted.{CountsIn, SaysCounts, ends_with_null, is_of_nodes, is_of_values}
 use Rattle.jp_program.specs.Wanted.{AreSaid, SaysFilter, output_text}
 use Rattle.jp_program.proofs.OneWish.{flag_same}
 
@@ -108,6 +108,21 @@ pub goes_with : (o : Output) (e : Ending) (null : Bool) → null ≡ ends_with_n
     → (null ≡ true → is_of_values o ≡ true) → GoesWith e o
 goes_with o LineFeed null is h = tt
 goes_with o Null null is h = h is
+
+-- nodes are counted as is said of it, beside the form
+pub counts_said : (rows : List Row) (o p : Output) (counts : Bool) → p ≡ o → SaysCounts rows o counts
+    → SaysCounts rows p counts
+counts_said rows o p counts form h = subst (λ x. SaysCounts rows x counts) (sym form) h
+
+pub count_unsaid : (rows : List Row) (o : Output) (counts : Bool) → SaysFlag (codes "count") rows true
+    → is_of_nodes o ≡ false → SaysCounts rows o counts → ⊥
+count_unsaid rows o false there off s =
+    let no : true ≡ false = flag_same true false (sym there ∙ s.0) in absurd (cc)
+count_unsaid rows o true there off s = absurd (let no : true ≡ false = sym s.1 ∙ off in cc)
+
+pub count_goes : (o : Output) (counts : Bool) → (counts ≡ true → is_of_nodes o ≡ true) → CountsIn o counts
+count_goes o false h = tt
+count_goes o true h = h refl
 
 -- the query's text is what is said of it
 module _ (name : Text) (rows : List Row) (o : Option Text) (is : o ≡ first_of name rows) where

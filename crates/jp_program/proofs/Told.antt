@@ -1,8 +1,8 @@
 -- What a run has told still holds once its sink is flushed, and says what its status says.
-use Rattle.std.proofs.Common.{◌≡◌, ◌∙◌, ℕ, ◌⊎◌, inl, inr, Bool, true, List, [], ◌∷◌, length}
+use Rattle.std.proofs.Common.{◌≡◌, ◌∙◌, ℕ, ◌⊎◌, inl, inr, Bool, true, false, List, [], ◌∷◌, length}
 use Rattle.std.proofs.Common.{cond, Option, Some, None, IfSome, Result, Ok, Err, refl, ap, sym}
 use Rattle.std.proofs.Common.{arith, subst}
-use Rattle.std.proofs.KnownBytes.{Appends-nil}
+use Rattle.std.proofs.KnownBytes.{Appends-nil, Keeps-trans}
 use Rattle.std.specs.Prelude.{is_err}
 use Rattle.std.specs.List.{filter}
 use Rattle.std.specs.Io.KnownBytes.{Appends, Keeps}
@@ -22,7 +22,9 @@ use Rattle.jp_answer.specs.declared.on_fault.OnFault.{OnFault}
 use Rattle.jp_answer.specs.declared.on_fault.OnFault.TheVariants.{Stop, KeepGoing}
 use Rattle.jp_answer.proofs.Joining.{answer_on, cons_on, line_answer, none_on, so_far}
 use Rattle.jp_run.specs.Answered.{IsAnswerBy}
-use Rattle.jp_run.specs.Cutting.{documents}
+use Rattle.jp_run.specs.AskedTexts.{AskedTexts}
+use Rattle.jp_run.specs.Cutting.{documents, documents_in}
+use Rattle.jp_run.specs.Manner.{Manner}
 use Rattle.jp_run.specs.Status.{status_of}
 use Rattle.jp_run.specs.declared.fault.RunFault.{RunFault}
 use Rattle.jp_run.specs.declared.fault.RunFault.TheVariants.{Query, Filter, Document, Read, Write, Limit}
@@ -30,7 +32,8 @@ use Rattle.jp_run.specs.declared.fault.RunFault.TheVariants.{Memory, Settings}
 use Rattle.jp_run.specs.Counts.{counted}
 use Rattle.jp_program.specs.Inputs.{Input}
 use Rattle.jp_program.specs.Outcome.{HasFailed, IsAnswered, Passes, IsFront, IsCutShort, IsWhole}
-use Rattle.jp_program.specs.Outcome.{IsRefusedWish, asked_in, form_for, manner_for, numbering_in}
+use Rattle.jp_program.specs.Outcome.{IsHanded, IsRefusedWish, asked_in, form_for, manner_for, numbering_in}
+use Rattle.jp_program.specs.Outcome.{told}
 use Rattle.jp_program.specs.Wanted.{Wanted}
 
 -- what was appended still is, where a flush keeps all
@@ -51,12 +54,12 @@ pub answered_kept : (w : Wanted) (stopped : Option (ℕ × DocFault)) (input : I
     → IsAnswered w stopped input old after
 answered_kept w stopped (name, None) old new after t k = tt
 answered_kept w stopped (name, Some bytes) old new after t k =
-    (t.0, t.1, t.2, kept old new after t.0.bytes t.3 k)
+    (t.0, t.1, t.2, kept old new after _ t.3 k)
 
 pub whole_kept : (w : Wanted) (input : Input) (old new after : Option (List ℕ)) → IsWhole w input old new
     → Keeps new after → IsWhole w input old after
 whole_kept w (name, None) old new after t k = tt
-whole_kept w (name, Some bytes) old new after t k = (t.0, t.1, t.2, kept old new after t.0.bytes t.3 k)
+whole_kept w (name, Some bytes) old new after t k = (t.0, t.1, t.2, kept old new after _ t.3 k)
 
 pub front_kept : (w : Wanted) (input : Input) (old new after : Option (List ℕ)) → IsFront w input old new
     → Keeps new after → IsFront w input old after
@@ -74,22 +77,29 @@ front_none w (name, Some bytes) old new same = λ a is. (
   subst (λ o. Appends old o []) (sym same) (Appends-nil old),
 )
 
+handed_kept : (counts : Bool) (going : Manner) (asked : AskedTexts) (ls : List Line)
+    (old new after : Option (List ℕ)) → IsHanded counts going asked ls old new → Keeps new after
+    → IsHanded counts going asked ls old after
+handed_kept true going asked ls old new after h k = Keeps-trans old new after h k
+handed_kept false going asked ls old new after h k = (
+  h.0,
+  h.1,
+  record {
+    whole = h.2.whole;
+    is = h.2.is;
+    stopped = h.2.stopped;
+    appended = kept old new after h.2.whole.bytes h.2.appended k;
+  },
+)
+
 pub cut_kept : (w : Wanted) (failed : Bool) (a : Input) (b old new after : Option (List ℕ))
     → IsCutShort w failed a b old new → Keeps new after → IsCutShort w failed a b old after
 cut_kept w failed a b old new after h k = (
   h.0,
   h.1,
   h.2,
-  (
-    h.3.0,
-    h.3.1,
-    record {
-      whole = h.3.2.whole;
-      is = h.3.2.is;
-      stopped = h.3.2.stopped;
-      appended = kept old new after h.3.2.whole.bytes h.3.2.appended k;
-    },
-  ),
+  handed_kept w.counts (manner_for w a.0 w.on_fault) (asked_in w) (documents_in (numbering_in w) h.1) old new
+      after h.3 k,
 )
 
 pub failed_kept : (w : Wanted) (rest : Option (List ℕ)) (reads reads_new : ℕ)
@@ -138,7 +148,7 @@ abbrev pub IsToldIn : OnFault → Wanted → Option (ℕ × DocFault) → Input 
     → Option (List ℕ) → Type 0
 IsToldIn going w stopped input old new = IfSome input.1 (λ bytes. (a : Answer)
     × IsAnswerBy (manner_for w input.0 going) (asked_in w) bytes a × (a.stopped ≡ stopped)
-    × Appends old new a.bytes)
+    × Appends old new (told w input.0 a))
 
 module _ (w : Wanted) where
   pub told_stop : (going : OnFault) (stopped : Option (ℕ × DocFault)) (input : Input)

@@ -1,7 +1,7 @@
 -- Inputs in turn: one more of them, and where they ended.
 use Rattle.std.proofs.Common.{◌≡◌, ◌∙◌, ℕ, ◌+◌, ◌<◌, List, [], ◌∷◌, ◌++◌, take, drop, suc, length}
 use Rattle.std.proofs.Common.{get_or, map}
-use Rattle.std.proofs.Common.{Option, Bool, true, false, ◌||◌, refl, sym, ap, subst, arith}
+use Rattle.std.proofs.Common.{zero, Option, Bool, true, false, ◌||◌, refl, sym, ap, subst, arith}
 use Rattle.std.proofs.Common.{take-append-drop, length-take-le}
 use Rattle.std.proofs.Math.ListN.{length-map}
 use Rattle.std.proofs.Math.Seq.{drop-cons}
@@ -171,10 +171,14 @@ pub none_of_two : (a b both : Bool) → both ≡ a || b → both ≡ false → (
 none_of_two false b both is e = (refl, sym is ∙ e)
 none_of_two true b both is e = absurd (let k : true ≡ false = sym is ∙ e in cc)
 
-pub one_of_two : {P : Type 0} (a b both : Bool) → both ≡ a || b → both ≡ true → (a ≡ true → P)
-    → (b ≡ true → P) → P
-one_of_two true b both is e p q = p refl
-one_of_two false b both is e p q = q (sym is ∙ e)
+-- the same of two counts
+pub none_counted : (a b both : ℕ) → both ≡ counted a b → both ≡ 0 → (a ≡ 0) × (b ≡ 0)
+none_counted a b both is e = (omega (arith, is, e), omega (arith, is, e))
+
+pub one_counted : {P : Type 0} (a b both : ℕ) → both ≡ counted a b → 0 < both → (0 < a → P) → (0 < b → P)
+    → P
+one_counted zero b both is e p q = q (omega (arith, is, e))
+one_counted (suc a) b both is e p q = p (omega arith)
 
 -- the same of files by their names, of which what opens them says what they hold
 module _ (holds held : Text → Held) (same : held ≡ holds) (names : List (Bor Text)) (i : ℕ) (d : Bor Text)

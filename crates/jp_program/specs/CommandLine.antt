@@ -76,19 +76,19 @@ with_numbers a = with_rule (with_rule (with_rule (with_rule a (number_rule (code
     (number_rule (codes "first") (codes "1"))
 
 abbrev pub with_flags : App → App
-with_flags a = with_rule (with_rule (with_rule (with_rule (with_rule (with_rule (with_rule (with_rule a
-    (flag_rule (codes "check"))) (letter_rule (codes "decimals") 100)) (letter_rule (codes "keep-going") 107))
-    (flag_rule (codes "explain"))) (letter_rule (codes "exit-status") 101)) (flag_rule (codes "documents")))
-    (flag_rule (codes "with-filename"))) (letter_rule (codes "null") 48)
+with_flags a = with_rule (with_rule (with_rule (with_rule (with_rule (with_rule (with_rule (with_rule
+    (with_rule a (flag_rule (codes "check"))) (letter_rule (codes "decimals") 100))
+    (letter_rule (codes "keep-going") 107)) (flag_rule (codes "explain")))
+    (letter_rule (codes "exit-status") 101)) (flag_rule (codes "documents")))
+    (flag_rule (codes "with-filename"))) (letter_rule (codes "null") 48)) (letter_rule (codes "count") 99)
 
 abbrev pub with_query : App → App
 with_query a = with_rule (with_rule a query_rule) files_rule
 
 -- `jp [-o FORM] [--field QUERY]... [--where FILTER] [--workers N] [--piece N] [--batch N] [--first N]
--- [--check] [-d] [-k] [--explain] [-e] [--documents] [--with-filename] [-0] QUERY [FILE]...`, where `-o` is
--- `--output`, `-d` is
--- `--decimals`, `-k` is `--keep-going`, `-e` is `--exit-status` and `-0` is `--null`; with `--help` and
--- `--version`
+-- [--check] [-d] [-k] [--explain] [-e] [--documents] [--with-filename] [-0] [-c] QUERY [FILE]...`, where `-o`
+-- is `--output`, `-d` is `--decimals`, `-k` is `--keep-going`, `-e` is `--exit-status`, `-0` is `--null` and
+-- `-c` is `--count`; with `--help` and `--version`
 abbrev pub jp_app : App
 jp_app = with_query (with_flags (with_numbers (with_filter (with_output (with_version
     (new_app (codes "jp")))))))

@@ -1,9 +1,10 @@
 -- What a status tells of both ends, where a run of a query was wanted.
 use Rattle.std.specs.Prelude.{◌≡◌, ℕ, suc, ◌+◌, ◌<◌, ◌⊎◌, Bool, true, false, if◌then◌else◌, List, [], ◌∷◌}
-use Rattle.std.specs.Prelude.{◌++◌, length, Option, None, IfSome, IsSomeAnd, map, codes}
+use Rattle.std.specs.Prelude.{◌++◌, length, Option, None, Some, IfSome, IsSomeAnd, map, codes, decimal}
 use Rattle.std.specs.List.{All}
-use Rattle.std.specs.Io.KnownBytes.{Appends, Consumes}
+use Rattle.std.specs.Io.KnownBytes.{Appends, Consumes, Keeps}
 use Rattle.clap.specs.Walk.{Text}
+use Rattle.jp_doc.specs.Lines.{Line}
 use Rattle.jp_doc.specs.declared.fault.DocFault.{DocFault}
 use Rattle.jp_pattern.specs.Tests.{Tests, AreRight}
 use Rattle.jp_answer.specs.Answer.{Answer, answer_by}
@@ -12,7 +13,7 @@ use Rattle.jp_answer.specs.Policy.{policy}
 use Rattle.jp_answer.specs.declared.on_fault.OnFault.{OnFault}
 use Rattle.jp_answer.specs.declared.on_fault.OnFault.TheVariants.{Stop, KeepGoing}
 use Rattle.jp_output.specs.Layouts.{laid_out}
-use Rattle.jp_output.specs.OutputForm.{OutputForm}
+use Rattle.jp_output.specs.OutputForm.{OutputForm, row_lines}
 use Rattle.jp_run.specs.Answered.{IsAnswerBy}
 use Rattle.jp_run.specs.AskedTexts.{AskedTexts, AreAcceptedIn, AreRefusedIn}
 use Rattle.jp_run.specs.Begun.{Begun, AllSince}
@@ -49,9 +50,11 @@ IsRefusedWish w fault = AreRefusedIn w.numbers (asked_in w) fault
 abbrev pub head_of : Wanted → Text → List ℕ
 head_of w name = if w.names then name ++ 9 ∷ [] else []
 
--- the wanted form of the answer to an input of this name, with the wanted ending and the wanted fields
+-- the wanted form of the answer to an input of this name, with the wanted ending and the wanted fields; where
+-- nodes are counted a line feed for each, which is a row of no fields
 abbrev pub form_for : Wanted → Text → OutputForm
-form_for w name = form_of w.output (laid_out (head_of w name) w.ending w.fields)
+form_for w name = if w.counts then row_lines []
+    else form_of w.output (laid_out (head_of w name) w.ending w.fields)
 
 -- how each input is cut, and its lines, or documents, are numbered
 abbrev pub numbering_in : Wanted → Numbering
@@ -61,12 +64,25 @@ numbering_in w = record { cutting = w.cutting; before = w.before }
 abbrev pub manner_for : Wanted → Text → OnFault → Manner
 manner_for w name on_fault = manner (numbering_in w) (form_for w name) (policy w.numbers on_fault)
 
+-- a number in decimal and a line feed, behind what lines stand behind
+abbrev pub count_line : List ℕ → ℕ → List ℕ
+count_line head n = head ++ (decimal n ++ 10 ∷ [])
+
+-- of an answer that has not stopped how many nodes there are, and nothing of another
+abbrev pub count_of : List ℕ → Option (ℕ × DocFault) → List ℕ → List ℕ
+count_of head None feeds = count_line head (counted 0 (length feeds))
+count_of head (Some stop) feeds = []
+
+-- what is written of an answer to an input of this name: its bytes, or the count of its nodes
+abbrev pub told : Wanted → Text → Answer → List ℕ
+told w name a = if w.counts then count_of (head_of w name) a.stopped a.bytes else a.bytes
+
 -- what was written is the wanted query's answer, in the wanted form and by the wanted numbers, to the whole
 -- input, which stopped there
 abbrev pub IsAnswered : Wanted → Option (ℕ × DocFault) → Input → Option (List ℕ) → Option (List ℕ) → Type 0
 IsAnswered w stopped input old new = IfSome input.1 (λ bytes. (a : Answer)
     × IsAnswerBy (manner_for w input.0 Stop) (asked_in w) bytes a × (a.stopped ≡ stopped)
-    × Appends old new a.bytes)
+    × Appends old new (told w input.0 a))
 
 -- what was written is the wanted query's answer that keeps going, in the wanted form and by the wanted
 -- numbers, to the whole input, and its faulty lines are counted on
@@ -75,7 +91,7 @@ Passes w input old new = IfSome input.1 (λ bytes. (q : FilteredQuery)
     × AreAcceptedIn w.numbers (asked_in w) q × (x : Answer)
     × ((t : Tests) → AreRight t → answer_by (form_for w input.0) (policy w.numbers KeepGoing) t q
     (documents (numbering_in w) bytes) ≡ x) × (new.1 ≡ counted old.1 x.faulty)
-    × Appends old.0 new.0 x.bytes)
+    × Appends old.0 new.0 (told w input.0 x))
 
 -- so it is of each input in turn, and faulty lines were passed
 abbrev pub ArePassed : Wanted → List Input → Option (List ℕ) → Option (List ℕ) → Type 0
@@ -86,7 +102,7 @@ ArePassed w inputs old new = (faulty : ℕ) × (0 < faulty) × EachInTurn (Passe
 abbrev pub IsWhole : Wanted → Input → Option (List ℕ) → Option (List ℕ) → Type 0
 IsWhole w input old new = IfSome input.1 (λ bytes. (a : Answer)
     × IsAnswerBy (manner_for w input.0 w.on_fault) (asked_in w) bytes a × (a.stopped ≡ None)
-    × Appends old new a.bytes)
+    × Appends old new (told w input.0 a))
 
 -- the wanted answer to these bytes of an input of this name is empty: nothing is selected in them
 abbrev pub HasEmptyAnswer : Wanted → Text → List ℕ → Type 0
@@ -111,12 +127,18 @@ AreKnownEmptyAnswers w inputs = All (IsKnownEmptyAnswer w) inputs
 -- what was written is a front of the wanted query's answer, in the wanted form, to the whole input
 abbrev pub IsFront : Wanted → Input → Option (List ℕ) → Option (List ℕ) → Type 0
 IsFront w input old new = IfSome input.1 (λ bytes. (a : Answer)
-    → IsAnswerBy (manner_for w input.0 w.on_fault) (asked_in w) bytes a → AppendsFront old new a.bytes)
+    → IsAnswerBy (manner_for w input.0 w.on_fault) (asked_in w) bytes a
+    → AppendsFront old new (told w input.0 a))
+
+-- what was written is the answer to these lines; or nothing, where nodes are counted
+abbrev pub IsHanded : Bool → Manner → AskedTexts → List Line → Option (List ℕ) → Option (List ℕ) → Type 0
+IsHanded true going asked ls old new = Keeps old new
+IsHanded false going asked ls old new = IsHandedBy going asked ls None old new
 
 -- the source has failed, and what was written is the answer to all documents whose line's end was read
 abbrev pub IsCutShort : Wanted → Bool → Input → Option (List ℕ) → Option (List ℕ) → Option (List ℕ) → Type 0
 IsCutShort w failed input rest old new = (failed ≡ true) × (bytes : List ℕ) × Consumes input.1 rest bytes
-    × IsHandedBy (manner_for w input.0 w.on_fault) (asked_in w) (documents_in (numbering_in w) bytes) None
+    × IsHanded w.counts (manner_for w input.0 w.on_fault) (asked_in w) (documents_in (numbering_in w) bytes)
     old new
 
 -- the input was cut short by a failure of its own: what was written is the answer to all documents whose
@@ -194,15 +216,16 @@ abbrev pub AreOpened : Wanted → ℕ → ℕ → ℕ → ℕ → Type 0
 AreOpened w opens opens_new broken broken_new = (opens_new ≡ counted opens (length w.files))
     × (broken_new ≡ broken)
 
--- each read of standard input that may wait has begun when the wanted answer to all lines whose end had come
--- was written and passed on
+-- unless nodes are counted: each read of standard input that may wait has begun when the wanted answer to all
+-- lines whose end had come was written and passed on
 abbrev pub ArePrompt : Wanted → Option (List Begun) → Option (List Begun) → Option (List ℕ)
     → Option (List ℕ) → Type 0
-ArePrompt w before after input old = AllSince before after
+ArePrompt w before after input old = w.counts ≡ false → AllSince before after
     (IsPrompt (manner_for w (codes "-") w.on_fault) (asked_in w) input old)
 
--- each read of it has begun when the wanted answer to all but the last 4 MB that had come was written
+-- unless they are: each read of it has begun when the wanted answer to all but the last 4 MB that had come
+-- was written
 abbrev pub AreNear : Wanted → Option (List Begun) → Option (List Begun) → Option (List ℕ)
     → Option (List ℕ) → Type 0
-AreNear w before after input old = AllSince before after
+AreNear w before after input old = w.counts ≡ false → AllSince before after
     (IsNear window (manner_for w (codes "-") w.on_fault) (asked_in w) input old)

@@ -24,11 +24,10 @@ use Rattle.jp_program.specs.CommandLine.{said, refusals, IsRefused}
 
 -- the query's text in scalar values, and that of a filter of documents, if there is one, the files by their
 -- names in bytes, whether lines are to name theirs, how each is cut into documents, whether what is asked is
--- only checked, what is written, what ends values, which fields rows have, which numbers documents, the
--- query and the filter may
--- have, what is done where a line is faulty, whether faulty lines are to be explained, whether the status
--- tells that nothing was selected, the settings, and how many lines, or documents, stand before the first of
--- each input
+-- only checked, whether nodes are only counted, what is written, what ends values, which fields rows have,
+-- which numbers documents, the query and the filter may have, what is done where a line is faulty, whether
+-- faulty lines are to be explained, whether the status tells that nothing was selected, the settings, and how
+-- many lines, or documents, stand before the first of each input
 pub record Wanted : Type 0 where
   pub query : List ℕ
   pub filter : Option (List ℕ)
@@ -36,6 +35,7 @@ pub record Wanted : Type 0 where
   pub names : Bool
   pub cutting : Cutting
   pub check : Bool
+  pub counts : Bool
   pub output : Output
   pub ending : Ending
   pub fields : List Path
@@ -101,6 +101,24 @@ output_text Lines = codes "lines"
 -- the option's text is the word for this form
 abbrev pub SaysOutput : List Row → Output → Type 0
 SaysOutput rows output = first_of (codes "output") rows ≡ Some (output_text output)
+
+-- the form of nodes
+abbrev pub is_of_nodes : Output → Bool
+is_of_nodes Nodes = true
+is_of_nodes Values = false
+is_of_nodes Texts = false
+is_of_nodes Raw = false
+is_of_nodes Rows = false
+is_of_nodes Lines = false
+
+-- nodes are counted, and nothing of them is written, so that no other form is asked for
+abbrev pub CountsIn : Output → Bool → Type 0
+CountsIn output false = Unit {0}
+CountsIn output true = is_of_nodes output ≡ true
+
+-- nodes are counted, or not, by whether that option is there, and that goes with the form
+abbrev pub SaysCounts : List Row → Output → Bool → Type 0
+SaysCounts rows output counts = SaysFlag (codes "count") rows counts × CountsIn output counts
 
 -- a form of values, each of which has an ending of its own
 abbrev pub is_of_values : Output → Bool
@@ -179,6 +197,7 @@ pub record Says (rows : List Row) (w : Wanted) : Type 0 where
   pub names : SaysNames rows w.files w.names
   pub cutting : SaysCutting rows w.cutting
   pub check : SaysFlag (codes "check") rows w.check
+  pub counts : SaysCounts rows w.output w.counts
   pub output : SaysOutput rows w.output
   pub ending : SaysEnding rows w.output w.ending
   pub fields : SaysFields rows w.output w.fields
@@ -200,8 +219,8 @@ WantsCheck words w = Wants words w × (w.check ≡ true)
 abbrev pub WantsRun : List Text → Wanted → Type 0
 WantsRun words w = Wants words w × (w.check ≡ false)
 
--- the words are wrong, or a number is out of its range, or there is no such form, or U+0000 is to end what
--- is no value, or a text is no field, or there are fields without rows, or rows without fields, or a file's
--- name has a control character
+-- the words are wrong, or a number is out of its range, or there is no such form, or nodes are to be counted
+-- in another one, or U+0000 is to end what is no value, or a text is no field, or there are fields without
+-- rows, or rows without fields, or a file's name has a control character
 abbrev pub IsWrong : List Text → Type 0
 IsWrong words = IsRefused words ⊎ ((refusals words ≡ []) × ((w : Wanted) → Says (said words) w → ⊥))

@@ -14,7 +14,8 @@ ghost use Rattle.jp_program.specs.Wanted.{Wanted as Wish, Wants};
 
 use crate::command::{note, note_text, tell};
 use crate::command_line::{
-    Invocation, MAX_FIELDS, ending_by, fields_by, files_by, matches, output_by, read_words,
+    Invocation, MAX_FIELDS, counts_by, ending_by, fields_by, files_by, matches, output_by,
+    read_words,
 };
 use crate::file_notes::{RunEnd, tell_of_run};
 use crate::filter_advice::tell_filter_refusal;
@@ -180,6 +181,9 @@ fn wrong_value(alloc: Global, matches: &ArgMatches<'_>) -> Result<&'static str, 
     let Some(output) = output_by(matches) else {
         return Ok("jp: --output takes nodes, values, texts, raw, rows or lines");
     };
+    if counts_by(matches, output).is_none() {
+        return Ok("jp: -c, --count stands in the place of --output");
+    }
     if ending_by(matches, output).is_none() {
         return Ok("jp: -0, --null goes with --output values, texts or raw");
     }

@@ -30,7 +30,7 @@ use crate::quoting::{print_literal, value_to_quote};
 use crate::turn::{Search, run_named};
 use crate::witness::Witness;
 use jp_answer::OnFault;
-use jp_run::{Buffers, Cutting, Prepared, RunFault, Sink, Source, Totals, write_all};
+use jp_run::{Buffers, Cutting, Nowhere, Prepared, RunFault, Sink, Source, Totals, write_all};
 use std::alloc::{AllocError, AllocGlobal, Global};
 use std::thread::Threads;
 
@@ -39,7 +39,7 @@ pub(crate) const NOTHING_SEEN: Totals = Totals {
     lines: 0,
     documents: 0,
     faulty: 0,
-    wrote: false,
+    wrote: 0,
 };
 
 /// Does what the words ask for, and gives the status to end with. The first word is the program's name.
@@ -56,14 +56,13 @@ pub(crate) const NOTHING_SEEN: Totals = Totals {
 /// the filter, is refused; 3 where a line is faulty, also where the answer has gone on past it; 4 where
 /// reading or writing failed, also where the answer has gone on past a file, or a limit was passed; 5 where a
 /// growth of memory was refused; 64 where the command line is refused.
-pub fn program<R: Threads + AllocGlobal + Sync, S: Source<K>, I: Inputs<S>, K: Sink, N: Sink>(
-    rt: &R,
-    words: &[&str],
-    inputs: &mut I,
-    source: &mut S,
-    sink: &mut K,
-    notes: &mut N,
-) -> u8
+pub fn program<
+    R: Threads + AllocGlobal + Sync,
+    S: Source<K> + Source<Nowhere>,
+    I: Inputs<S>,
+    K: Sink,
+    N: Sink,
+>(rt: &R, words: &[&str], inputs: &mut I, source: &mut S, sink: &mut K, notes: &mut N) -> u8
     requires working { (S.failed source.old ≡ false) × (K.failed sink.old ≡ false) }
     requires few { (S.reads source.old ≤ 2 ^ 62) × (S.given source.old ≤ 2 ^ 62)
         × (I.opens inputs.old ≤ 2 ^ 62) }
@@ -198,10 +197,10 @@ pub fn program<R: Threads + AllocGlobal + Sync, S: Source<K>, I: Inputs<S>, K: S
                 witness.tell(notes);
                 return totals.status();
             }
-            if witness.is_asked && !totals.wrote {
+            if witness.is_asked && totals.wrote == 0 {
                 tell_nothing_selected(rt.alloc(), notes, totals.documents);
             }
-            if witness.tells_nothing && !totals.wrote {
+            if witness.tells_nothing && totals.wrote == 0 {
                 return 1;
             }
             0
@@ -225,7 +224,13 @@ pub fn program<R: Threads + AllocGlobal + Sync, S: Source<K>, I: Inputs<S>, K: S
 
 /// Does what the words ask for. Gives what a run has seen: nothing where none was asked for. The witness
 /// keeps the first faulty lines, where the words ask to explain them.
-fn done<R: Threads + AllocGlobal + Sync, S: Source<K>, I: Inputs<S>, K: Sink, N: Sink>(
+fn done<
+    R: Threads + AllocGlobal + Sync,
+    S: Source<K> + Source<Nowhere>,
+    I: Inputs<S>,
+    K: Sink,
+    N: Sink,
+>(
     rt: &R,
     words: &[&str],
     inputs: &mut I,
@@ -260,9 +265,9 @@ fn done<R: Threads + AllocGlobal + Sync, S: Source<K>, I: Inputs<S>, K: Sink, N:
         → OnOk result (witness.new.tells_nothing ≡ w.exit_status) }
     ensures asks { witness.new.tells_nothing ≡ true → OnOk result ((w : Wish)
         × WantsRun (texts words.now) w × (w.exit_status ≡ true)) }
-    ensures nothing { (w : Wish) → WantsRun (texts words.now) w → IfOk result (λ totals. totals.wrote ≡ false
+    ensures nothing { (w : Wish) → WantsRun (texts words.now) w → IfOk result (λ totals. totals.wrote ≡ 0
         → AreEmptyAnswers w (inputs_of w.files (I.holds inputs.old) (S.remaining source.old))) }
-    ensures something { (w : Wish) → WantsRun (texts words.now) w → IfOk result (λ totals. totals.wrote ≡ true
+    ensures something { (w : Wish) → WantsRun (texts words.now) w → IfOk result (λ totals. 0 < totals.wrote
         → AreKnownEmptyAnswers w (inputs_of w.files (I.holds inputs.old) (S.remaining source.old)) → ⊥) }
     ensures unbroken { (w : Wish) → WantsRun (texts words.now) w → w.on_fault ≡ Stop
         → I.broken inputs.new ≡ I.broken inputs.old }

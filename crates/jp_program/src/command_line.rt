@@ -16,10 +16,11 @@ ghost use Rattle.jp_program.specs.CommandLine.{with_flags as flags_of, with_quer
 ghost use Rattle.jp_program.specs.inner.Invocation.{IsAsked, IsNotAsked, wanted_of};
 ghost use Rattle.jp_program.specs.Wanted.{Wanted as Wish, Says, SaysNumber, SaysFlag, SaysOutput, AreSaid};
 ghost use Rattle.jp_program.specs.Wanted.{IsName, SaysFiles, SaysNames, cuts_documents, has_decimals};
-ghost use Rattle.jp_program.specs.Wanted.{AreFieldsOf, SaysEnding, SaysFields, ends_with_null, keeps_going};
+ghost use Rattle.jp_program.specs.Wanted.{AreFieldsOf, SaysCounts, SaysEnding, SaysFields};
+ghost use Rattle.jp_program.specs.Wanted.{ends_with_null, keeps_going};
 ghost use Rattle.jp_output.specs.Rows.{Path, field_of};
 
-use crate::output::{has_fields, is_of_values, output_of};
+use crate::output::{has_fields, is_of_nodes, is_of_values, output_of};
 use crate::version::VERSION;
 use clap::error::ErrorKind;
 use clap::{Arg, ArgAction, ArgMatches, Command, Error, value_parser};
@@ -42,6 +43,7 @@ Examples:
   jp --output texts '$.msg' < app.log
   jp -o rows --field @.id --field @.price '$.items[*]' < orders.jsonl
   jp -0 --output raw '$.path' < files.jsonl | xargs -0 ls
+  jp -c '$.error' *.log
   jp -d --documents '$.service.port' service.json
   jp -de --documents '$.service.user' service.json
   jp --workers 8 '$.items[?@.count > 10]' < orders.jsonl
@@ -64,7 +66,8 @@ feeds and all; rows a line of fields with tabs between, each as by texts, or
 empty where there is no value; lines each line, or document, once, in which a
 node is selected. A FIELD is a singular query of @, the node: @.name, @.tags[0].
 None of these names its file. With -0 values, texts and raw texts end with
-U+0000, which xargs -0 and sort -z take, and not with a line feed.
+U+0000, which xargs -0 and sort -z take, and not with a line feed. With -c there
+is a line for each FILE alone: how many nodes are selected in it, 0 too.
 
 FILTER is what may stand behind ? in $[?FILTER]: both @ and $ are the document.
 A QUERY that begins with - is given behind --. It may call two of our own:
@@ -101,6 +104,8 @@ pub(crate) struct Wanted<'a> {
     pub(crate) names: bool,
     /// Only whether the query is accepted.
     pub(crate) check: bool,
+    /// Only how many nodes are selected in each input.
+    pub(crate) counts: bool,
     /// Whether the first faulty lines are to be explained.
     pub(crate) explain: bool,
     /// Whether the status is to tell that nothing was selected.
@@ -193,7 +198,8 @@ fn with_numbers<'a>(alloc: Global, command: Command<'a>) -> Result<Command<'a>, 
 
 /// The command, with the options that are there or not: whether the query is only checked, which numbers are
 /// read, whether faulty lines are passed, whether they are to be explained, whether the status tells that
-/// nothing was selected, whether documents go over lines, whether lines name their file, and what ends values.
+/// nothing was selected, whether documents go over lines, whether lines name their file, what ends values,
+/// and whether nodes are only counted.
 fn with_flags<'a>(alloc: Global, command: Command<'a>) -> Result<Command<'a>, AllocError>
     ensures { IfOk result (λ r. app_of r ≡ flags_of (app_of command.entry)) }
 {
@@ -205,6 +211,7 @@ fn with_flags<'a>(alloc: Global, command: Command<'a>) -> Result<Command<'a>, Al
     let documents = "Read documents over any number of lines";
     let with_filename = "Begin each line with the name of its file";
     let null = "End each value with U+0000, not a line feed";
+    let count = "Write only how many nodes are selected in each FILE";
     let command = command.arg(flag(alloc, "check", check))?;
     let command = command.arg(lettered(alloc, "decimals", 'd', decimals))?;
     let command = command.arg(lettered(alloc, "keep-going", 'k', keep_going))?;
@@ -212,7 +219,8 @@ fn with_flags<'a>(alloc: Global, command: Command<'a>) -> Result<Command<'a>, Al
     let command = command.arg(lettered(alloc, "exit-status", 'e', exit_status))?;
     let command = command.arg(flag(alloc, "documents", documents))?;
     let command = command.arg(flag(alloc, "with-filename", with_filename))?;
-    command.arg(lettered(alloc, "null", '0', null))
+    let command = command.arg(lettered(alloc, "null", '0', null))?;
+    command.arg(lettered(alloc, "count", 'c', count))
 }
 
 /// The command, with the query, and the files behind it.
@@ -314,8 +322,8 @@ fn files<'a>(alloc: Global) -> Arg<'a>
 }
 
 /// The query, and what is to be done with it; none where a number is out of its range, or there is no such
-/// form, or U+0000 is to end what is no value, or the fields are none of the form, or a file's name has a
-/// control character.
+/// form, or nodes are to be counted in another, or U+0000 is to end what is no value, or the fields are none
+/// of the form, or a file's name has a control character.
 fn wanted_by<'a>(alloc: Global, matches: &ArgMatches<'a>) -> Result<Option<Wanted<'a>>, AllocError>
     ensures some { IfOk result (λ o. IfSome o (λ w. Says (rows_of (found_of matches.now)) (wanted_of w))) }
     ensures none { IfOk result (λ o. IsNone o
@@ -350,6 +358,7 @@ fn wanted_of_files<'a>(
     let names = names_by(matches, &files)?;
     let ending = ending_by(matches, output)?;
     let check = flag_by(matches, "check")?;
+    let counts = counts_by(matches, output)?;
     let decimals = flag_by(matches, "decimals")?;
     let keep_going = flag_by(matches, "keep-going")?;
     let explain = flag_by(matches, "explain")?;
@@ -367,6 +376,7 @@ fn wanted_of_files<'a>(
         files,
         names,
         check,
+        counts,
         explain,
         exit_status,
         fields,
@@ -579,6 +589,18 @@ fn fields_of(
         return Ok(None);
     }
     fields_in(alloc, given)
+}
+
+/// Whether nodes are only counted; none where that is not said, or they are to be counted in another form.
+pub(crate) fn counts_by(matches: &ArgMatches<'_>, output: Output) -> Option<bool>
+    ensures some { IfSome result (SaysCounts (rows_of (found_of matches.now)) output) }
+    ensures none { IsNone result → (b : Bool) → SaysCounts (rows_of (found_of matches.now)) output b → ⊥ }
+{
+    let counts = flag_by(matches, "count")?;
+    if counts && !is_of_nodes(output) {
+        return None;
+    }
+    Some(counts)
 }
 
 /// What ends values; none where that is not said, or U+0000 is to end what is no value.

@@ -18,7 +18,7 @@ use crate::file_notes::tell_failed_file;
 use crate::inputs::Inputs;
 use crate::turn::{Search, run_named};
 use jp_answer::OnFault;
-use jp_run::{Buffers, Cutting, RunFault, Sink, Source, Totals};
+use jp_run::{Buffers, Cutting, Nowhere, RunFault, Sink, Source, Totals};
 use std::alloc::{AllocGlobal, Global};
 use std::thread::Threads;
 
@@ -35,7 +35,7 @@ struct Seen {
 /// Gives what was seen of all.
 pub(crate) fn answer_files<
     R: Threads + AllocGlobal + Sync,
-    S: Source<K>,
+    S: Source<K> + Source<Nowhere>,
     I: Inputs<S>,
     K: Sink,
     N: Sink,
@@ -60,10 +60,10 @@ pub(crate) fn answer_files<
         × ArePassed (wanted_of search.now.wanted.now)
         (map (named (I.holds inputs.old)) (wanted_of search.now.wanted.now).files) (K.contents sink.old)
         (K.contents sink.new)) }
-    ensures nothing { IfOk result (λ totals. totals.wrote ≡ false
+    ensures nothing { IfOk result (λ totals. totals.wrote ≡ 0
         → AreEmptyAnswers (wanted_of search.now.wanted.now)
         (map (named (I.holds inputs.old)) (wanted_of search.now.wanted.now).files)) }
-    ensures something { IfOk result (λ totals. totals.wrote ≡ true
+    ensures something { IfOk result (λ totals. 0 < totals.wrote
         → AreKnownEmptyAnswers (wanted_of search.now.wanted.now)
         (map (named (I.holds inputs.old)) (wanted_of search.now.wanted.now).files) → ⊥) }
     ensures end { OnOk result (IsAtEnd (S.remaining source.new)) }
@@ -120,7 +120,7 @@ pub(crate) fn answer_files<
 /// What was seen of two collections.
 fn both(one: &Seen, other: &Seen) -> Seen
     ensures faulty { result.totals.faulty ≡ counted one.now.totals.faulty other.now.totals.faulty }
-    ensures wrote { result.totals.wrote ≡ one.now.totals.wrote || other.now.totals.wrote }
+    ensures wrote { result.totals.wrote ≡ counted one.now.totals.wrote other.now.totals.wrote }
     ensures failed { result.has_failed ≡ one.now.has_failed || other.now.has_failed }
 {
     Seen {
@@ -128,7 +128,7 @@ fn both(one: &Seen, other: &Seen) -> Seen
             lines: one.totals.lines.saturating_add(other.totals.lines),
             documents: one.totals.documents.saturating_add(other.totals.documents),
             faulty: one.totals.faulty.saturating_add(other.totals.faulty),
-            wrote: one.totals.wrote || other.totals.wrote,
+            wrote: one.totals.wrote.saturating_add(other.totals.wrote),
         },
         has_failed: one.has_failed || other.has_failed,
     }
@@ -154,7 +154,13 @@ fn is_passed(fault: &RunFault, on_fault: OnFault) -> bool
 
 /// Opens the file of this name, and answers it. Where the answer keeps going, and the sink takes on, a file
 /// that cannot be opened or read is told and passed: the fault with the first one alone.
-fn answer_next<R: Threads + AllocGlobal + Sync, S: Source<K>, I: Inputs<S>, K: Sink, N: Sink>(
+fn answer_next<
+    R: Threads + AllocGlobal + Sync,
+    S: Source<K> + Source<Nowhere>,
+    I: Inputs<S>,
+    K: Sink,
+    N: Sink,
+>(
     search: &Search<'_, '_, '_, '_, R>,
     name: &str,
     has_failed: bool,
@@ -181,9 +187,9 @@ fn answer_next<R: Threads + AllocGlobal + Sync, S: Source<K>, I: Inputs<S>, K: S
         (K.contents sink.old, n) (K.contents sink.new, counted n seen.totals.faulty)) }
     ensures none_passed { (wanted_of search.now.wanted.now).on_fault ≡ Stop
         → IfOk result (λ seen. seen.totals.faulty ≡ 0) }
-    ensures nothing { IfOk result (λ seen. seen.has_failed ≡ false → seen.totals.wrote ≡ false
+    ensures nothing { IfOk result (λ seen. seen.has_failed ≡ false → seen.totals.wrote ≡ 0
         → IsEmptyAnswer (wanted_of search.now.wanted.now) (named (I.holds inputs.old) name.now)) }
-    ensures something { IfOk result (λ seen. seen.has_failed ≡ false → seen.totals.wrote ≡ true
+    ensures something { IfOk result (λ seen. seen.has_failed ≡ false → 0 < seen.totals.wrote
         → IsKnownEmptyAnswer (wanted_of search.now.wanted.now) (named (I.holds inputs.old) name.now) → ⊥) }
     ensures end { IfOk result (λ seen. seen.has_failed ≡ false → IsAtEnd (S.remaining source.new)) }
     ensures flushed { IfOk result (λ seen. seen.has_failed ≡ false → K.flushed sink.new ≡ true) }
@@ -227,7 +233,12 @@ fn answer_next<R: Threads + AllocGlobal + Sync, S: Source<K>, I: Inputs<S>, K: S
 }
 
 /// Opens the file of this name, and answers it.
-fn answer_file<R: Threads + AllocGlobal + Sync, S: Source<K>, I: Inputs<S>, K: Sink>(
+fn answer_file<
+    R: Threads + AllocGlobal + Sync,
+    S: Source<K> + Source<Nowhere>,
+    I: Inputs<S>,
+    K: Sink,
+>(
     search: &Search<'_, '_, '_, '_, R>,
     name: &str,
     buffers: &mut Buffers,
@@ -247,9 +258,9 @@ fn answer_file<R: Threads + AllocGlobal + Sync, S: Source<K>, I: Inputs<S>, K: S
         (K.contents sink.old, n) (K.contents sink.new, counted n totals.faulty)) }
     ensures none_passed { (wanted_of search.now.wanted.now).on_fault ≡ Stop
         → IfOk result (λ totals. totals.faulty ≡ 0) }
-    ensures nothing { IfOk result (λ totals. totals.wrote ≡ false
+    ensures nothing { IfOk result (λ totals. totals.wrote ≡ 0
         → IsEmptyAnswer (wanted_of search.now.wanted.now) (named (I.holds inputs.old) name.now)) }
-    ensures something { IfOk result (λ totals. totals.wrote ≡ true
+    ensures something { IfOk result (λ totals. 0 < totals.wrote
         → IsKnownEmptyAnswer (wanted_of search.now.wanted.now) (named (I.holds inputs.old) name.now) → ⊥) }
     ensures end { OnOk result (IsAtEnd (S.remaining source.new)) }
     ensures flushed { OnOk result (K.flushed sink.new ≡ true) }

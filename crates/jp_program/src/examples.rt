@@ -22,6 +22,7 @@ fn all_options()
           names = true;
           cutting = Cutting.Documents;
           check = true;
+          counts = false;
           output = Texts;
           ending = Null;
           fields = [];
@@ -45,6 +46,7 @@ fn letters()
       names = false;
       cutting = Cutting.Lines;
       check = false;
+      counts = false;
       output = Texts;
       ending = Null;
       fields = [];
@@ -52,6 +54,30 @@ fn letters()
       on_fault = KeepGoing;
       explain = false;
       exit_status = true;
+      workers = 4;
+      piece = 64;
+      batch = 4096;
+      before = 0;
+    }) }
+{}
+
+/// A count, which is a form of its own.
+fn counts()
+    ensures { Wants (codes "jp" ∷ codes "-c" ∷ codes "$" ∷ codes "x" ∷ []) (record {
+      query = codes "$";
+      filter = None;
+      files = codes "x" ∷ [];
+      names = false;
+      cutting = Cutting.Lines;
+      check = false;
+      counts = true;
+      output = Nodes;
+      ending = LineFeed;
+      fields = [];
+      numbers = Whole;
+      on_fault = Stop;
+      explain = false;
+      exit_status = false;
       workers = 4;
       piece = 64;
       batch = 4096;
@@ -68,6 +94,7 @@ fn one_file()
       names = false;
       cutting = Cutting.Lines;
       check = false;
+      counts = false;
       output = Nodes;
       ending = LineFeed;
       fields = [];
@@ -87,6 +114,7 @@ fn one_file()
       names = true;
       cutting = Cutting.Lines;
       check = false;
+      counts = false;
       output = Nodes;
       ending = LineFeed;
       fields = [];
@@ -110,6 +138,7 @@ fn two_files()
       names = true;
       cutting = Cutting.Lines;
       check = false;
+      counts = false;
       output = Nodes;
       ending = LineFeed;
       fields = [];
@@ -133,6 +162,7 @@ fn files()
       names = true;
       cutting = Cutting.Lines;
       check = false;
+      counts = false;
       output = Nodes;
       ending = LineFeed;
       fields = [];
@@ -157,6 +187,7 @@ fn options_between_files()
           names = true;
           cutting = Cutting.Lines;
           check = false;
+          counts = false;
           output = Lines;
           ending = LineFeed;
           fields = [];
@@ -188,8 +219,8 @@ fn wrong_words()
     ensures twice { IsRefused (codes "jp" ∷ codes "--check" ∷ codes "--check" ∷ codes "$" ∷ []) }
 {}
 
-/// A number past its range, a form that there is not, U+0000 behind what is no value, and a file's name with a
-/// line feed.
+/// A number past its range, a form that there is not, U+0000 behind what is no value, and a file's name with
+/// a line feed.
 fn out_of_range()
     ensures workers { IsWrong (codes "jp" ∷ codes "--workers" ∷ codes "65" ∷ codes "$" ∷ []) }
     ensures first { IsWrong (codes "jp" ∷ codes "--first" ∷ codes "0" ∷ codes "$" ∷ []) }

@@ -1,9 +1,11 @@
 //! Laws of the definitions, each the contract of a function that does nothing.
 
 ghost use Rattle.std.specs.Prelude.{◌≡◌, ◌∷◌, ◌<◌, ℕ, List, [], false, Option, None, Some};
-ghost use Rattle.std.specs.Prelude.{IfSome, codes};
+ghost use Rattle.std.specs.Prelude.{IfSome, codes, length};
 ghost use Rattle.std.specs.Io.KnownBytes.{Appends};
 ghost use Rattle.std.specs.Str.{chars, IsUtf8};
+ghost use Rattle.jp_doc.specs.Lines.{Line};
+ghost use Rattle.jp_doc.specs.Location.{Node};
 ghost use Rattle.jp_doc.specs.declared.fault.DocFault.{DocFault};
 ghost use Rattle.jp_pattern.specs.Tests.{Tests, AreRight};
 ghost use Rattle.jp_answer.specs.FilteredQuery.{FilteredQuery};
@@ -12,6 +14,7 @@ ghost use Rattle.jp_answer.specs.Policy.{policy};
 ghost use Rattle.jp_answer.specs.declared.on_fault.OnFault.TheVariants.{Stop, KeepGoing};
 ghost use Rattle.jp_number.specs.declared.numbers.Numbers.TheVariants.{Whole};
 ghost use Rattle.jp_output.specs.Fields.{IsFieldName};
+ghost use Rattle.jp_output.specs.OutputForm.{row_lines};
 ghost use Rattle.jp_output.specs.declared.layout.Ending.TheVariants.{LineFeed};
 ghost use Rattle.jp_run.specs.AskedTexts.{AreAcceptedIn};
 ghost use Rattle.jp_run.specs.Cutting.{documents};
@@ -21,7 +24,7 @@ ghost use Rattle.jp_program.specs.CommandLine.{AsksToQuote};
 ghost use Rattle.jp_program.specs.Inputs.{Course, EachInTurn, EndsIn, Held, Input, Standing, inputs_of};
 ghost use Rattle.jp_program.specs.Inputs.{standard};
 ghost use Rattle.jp_program.specs.Outcome.{AreFailed, ArePassed, HasFailed, IsAnswered, IsFront, IsWhole};
-ghost use Rattle.jp_program.specs.Outcome.{IsWholeOrCut, Left, asked_in, form_for, numbering_in};
+ghost use Rattle.jp_program.specs.Outcome.{IsWholeOrCut, Left, asked_in, form_for, numbering_in, told};
 ghost use Rattle.jp_program.specs.Wanted.{IsName, Wanted, Wants};
 
 /// A command line that is a query alone, which begins with `$` as each query does: the words are taken, they
@@ -34,6 +37,7 @@ pub fn query_alone()
       names = false;
       cutting = Cutting.Lines;
       check = false;
+      counts = false;
       output = Nodes;
       ending = LineFeed;
       fields = [];
@@ -85,9 +89,17 @@ pub fn no_file()
         → ArePassed w (inputs_of [] holds first) old new → IfSome first (λ bytes. (q : FilteredQuery)
         × AreAcceptedIn w.numbers (asked_in w) q × (x : Answer)
         × ((t : Tests) → AreRight t → answer_by (form_for w (codes "-")) (policy w.numbers KeepGoing) t
-        q (documents (numbering_in w) bytes) ≡ x) × (0 < x.faulty) × Appends old new x.bytes) }
+        q (documents (numbering_in w) bytes) ≡ x) × (0 < x.faulty)
+        × Appends old new (told w (codes "-") x)) }
     ensures whole { (w : Wanted) (input : Input) (old new : Option (List ℕ)) → w.on_fault ≡ Stop
         → IsWhole w input old new → IsAnswered w None input old new }
+{}
+
+/// What is counted is nodes: a row of no fields is one byte, so the answer in such rows has as many bytes as
+/// there are nodes, and none for a faulty line.
+pub fn counts_are_nodes()
+    ensures one_each { (l : Line) (ns : List Node) → length ((row_lines []).of_document l ns) ≡ length ns }
+    ensures none { (number : ℕ) (fault : DocFault) → (row_lines []).of_fault number fault ≡ [] }
 {}
 
 /// Where the answer does not keep going no input is passed: each before the one at which a run ends was

@@ -4,12 +4,14 @@
 mod advice;
 mod command;
 mod command_line;
+mod counting;
 mod each;
 mod examples;
 mod file_notes;
 mod filter_advice;
 mod inputs;
 mod laws;
+mod line;
 mod output;
 mod pattern_notes;
 mod peer_options;

@@ -1,9 +1,8 @@
-//! The words for the forms of an answer, and which of them are forms of values
-//! or have fields.
+//! The words for the forms of an answer, and which of them are of nodes or of values, or have fields.
 
 ghost use Rattle.std.specs.Prelude.{◌≡◌, IfSome, IsNone};
 ghost use Rattle.jp_run.specs.declared.output.Output.{Output as Form};
-ghost use Rattle.jp_program.specs.Wanted.{has_fields, is_of_values, output_text};
+ghost use Rattle.jp_program.specs.Wanted.{has_fields, is_of_nodes, is_of_values, output_text};
 
 use jp_run::Output;
 
@@ -20,6 +19,16 @@ pub(crate) fn output_of(word: &str) -> Option<Output>
         "rows" => Some(Output::Rows),
         "lines" => Some(Output::Lines),
         _ => None,
+    }
+}
+
+/// Whether a form is that of nodes.
+pub(crate) fn is_of_nodes(output: Output) -> bool
+    ensures { result ≡ is_of_nodes output }
+{
+    match output {
+        Output::Nodes => true,
+        Output::Values | Output::Texts | Output::Raw | Output::Rows | Output::Lines => false,
     }
 }
 

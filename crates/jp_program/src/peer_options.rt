@@ -4,12 +4,11 @@
 pub(crate) fn own_way(option: &str) -> Option<&'static str> {
     match option {
         "-r" | "--raw-output" | "--raw" => Some("texts as they are: -o raw"),
-        "-c" | "--compact-output" | "--compact" => Some("the values alone: -o values"),
+        "--compact-output" | "--compact" => Some("the values alone: -o values"),
         "-s" | "--slurp" | "-n" | "--null-input" => {
             Some("documents over any number of lines: --documents")
         }
         "-j" | "--jobs" | "--threads" => Some("threads: --workers N"),
-        "--count" => Some("a count: .. | wc -l"),
         "-l" | "--files-with-matches" => {
             Some("the names of the files: --with-filename .. | cut -f1 | uniq")
         }

@@ -8,8 +8,9 @@ ghost use Rattle.jp_program.specs.CommandLine.{to_quote};
 ghost use Rattle.jp_program.specs.Printed.{IsPrinted, literal_line};
 
 use crate::command::{note, pass_on_after, tell};
+use crate::line::write_line;
 use jp_quote::quote;
-use jp_run::{RunFault, Sink, write_all};
+use jp_run::{RunFault, Sink};
 use std::alloc::{AllocError, Global};
 
 /// The text that the words ask to be quoted: `--quote` and the text are all that stands behind the name.
@@ -60,13 +61,7 @@ fn write_literal<K: Sink>(alloc: Global, sink: &mut K, value: &str) -> Result<()
         × AppendsFront (K.contents sink.old) (K.contents sink.new) (literal_line value.now))) }
 {
     let line = literal_line(alloc, value)?;
-    if write_all(sink, line.as_bytes()).is_err() {
-        return Err(RunFault::Write);
-    }
-    if sink.flush().is_err() {
-        return Err(RunFault::Write);
-    }
-    Ok(())
+    write_line(sink, line.as_str())
 }
 
 /// The literal whose value is the text, and a line feed.

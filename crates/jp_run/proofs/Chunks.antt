@@ -1,14 +1,12 @@
 -- Chunks that are written one after another.
 use Rattle.std.proofs.Common.{◌≡◌, ℕ, suc, ◌+◌, ◌<◌, List, ◌∷◌, ◌++◌, length, take, drop, get_or, sym, ap}
 use Rattle.std.proofs.Common.{◌∙◌, subst, arith, length-append, append_assoc, add-one, Option, Vec, Global}
-use Rattle.std.proofs.Common.{[], false, true, nat_lt, vec_len}
-use Rattle.std.specs.Prelude.{◌==◌}
+use Rattle.std.proofs.Common.{vec_len}
 use Rattle.std.proofs.Math.Seq.{drop-cons, take-append-add}
-use Rattle.std.proofs.lemmas.Bool.Decides.{nat_tests}
-use Rattle.std.proofs.lemmas.List.{nil_from_length}
 use Rattle.std.specs.Io.KnownBytes.{Appends}
 use Rattle.std.proofs.KnownBytes.{Appends-trans}
 use Rattle.jp_output.specs.Chunks.{bytes_in}
+use Rattle.jp_run.specs.Counts.{counted}
 use Rattle.jp_run.specs.Written.{AppendsFront}
 use Rattle.jp_run.proofs.Handed.{Written}
 use Rattle.jp_run.proofs.Handing.{front_longer}
@@ -45,17 +43,9 @@ module _ (chunks : List (Vec ℕ Global)) (i : ℕ) (x : Vec ℕ Global) (h : i 
             (Appends-trans a b c w.front (take front.0 rest) w.appended front.2),
       )
 
-  -- where those before it have no byte
-  module _ (none : bytes_in chunks ≡ bytes_in (drop i chunks)) where
-    pub chunk_some : vec_len x == 0 ≡ false → true ≡ nat_lt 0 (length (bytes_in chunks))
-    chunk_some some =
-        let is_len : vec_len x ≡ length x.items = x.ok.0 in
-        let bytes : length (bytes_in chunks) ≡ length x.items + length later =
-        ap length (none ∙ here) ∙ length-append x.items later in
-        grind (arith, nat_tests)
-
-    pub chunk_none : vec_len x == 0 ≡ true → bytes_in chunks ≡ later
-    chunk_none empty =
-        let is_len : vec_len x ≡ length x.items = x.ok.0 in
-        let no_items : x.items ≡ [] = nil_from_length x.items (grind (arith, nat_tests)) in
-        none ∙ here ∙ ap (λ l. l ++ later) no_items
+  -- its bytes are counted on
+  pub chunk_counted : (count all : ℕ) → counted count (length (bytes_in (drop i chunks))) ≡ all
+      → counted (counted count (vec_len x)) (length later) ≡ all
+  chunk_counted count all h =
+      let is_len : vec_len x ≡ length x.items = x.ok.0 in
+      omega (arith, h, is_len, ap length here, length-append x.items later)

@@ -271,7 +271,7 @@ module _ (going : Manner) (q : FilteredQuery) where
       faulty_ok (Ok t) k = rest_passed t.faulty k
       faulty_ok (Err f) k = tt
 
-      rest_wrote : (wrote : Bool)
+      rest_wrote : (wrote : ℕ)
           → HasBytesMore going q (st.buffer.lines ++ finished_lines st.buffer.progress)
           st.answered.wrote wrote
           → IfSome a (λ input. HasBytes going q (documents going.numbering input) wrote)

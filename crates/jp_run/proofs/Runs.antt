@@ -1,7 +1,7 @@
 -- What a run has done, in terms of its query's text.
 use Rattle.std.proofs.Common.{◌≡◌, ℕ, ◌+◌, ◌≤◌, List, Option, Some, None, IfSome, inl}
 use Rattle.std.proofs.Common.{Result, Ok}
-use Rattle.std.proofs.Common.{Err, IfErr, IfOk, OnOk, OnErr, IsErrAnd, ◌∙◌, ap, subst, sym, nat_lt, arith}
+use Rattle.std.proofs.Common.{Err, IfErr, IfOk, OnOk, OnErr, IsErrAnd, ◌∙◌, ap, subst, sym, arith}
 use Rattle.std.proofs.Common.{length, refl}
 use Rattle.std.specs.Prelude.{IsErrOf}
 use Rattle.std.specs.Io.KnownBytes.{Appends}
@@ -38,6 +38,7 @@ use Rattle.jp_run.specs.Ran.{IsRunOf}
 use Rattle.jp_run.specs.Status.{status_of}
 use Rattle.jp_run.specs.inner.Running.{HasRun}
 use Rattle.jp_run.specs.inner.Standing.{BeginsPrompt, BeginsNear}
+use Rattle.jp_run.specs.Counts.{counted}
 use Rattle.jp_run.specs.inner.Wrote.{HasBytes}
 use Rattle.jp_run.proofs.Accepted.{one_asked}
 use Rattle.jp_run.proofs.Ending.{ended_front}
@@ -100,13 +101,13 @@ module _ (going : Manner) (asked : AskedTexts) (q : FilteredQuery)
       → IfOk r (λ totals. IfSome known (λ input. HasBytes going q (documents going.numbering input)
       totals.wrote))
       → IfOk r (λ totals. IfSome known (λ input. (a : Answer) × IsAnswerBy going asked input a
-      × (totals.wrote ≡ nat_lt 0 (length a.bytes))))
+      × (totals.wrote ≡ counted 0 (length a.bytes))))
   answer_wrote (Ok totals) None s u h k = tt
   answer_wrote (Ok totals) (Some input) s u h k = (
     h.whole,
     (q, accepted, h.is),
     k right_tests.0 right_tests.1
-        ∙ ap (λ (a : Answer). nat_lt 0 (length a.bytes)) (h.is right_tests.0 right_tests.1),
+        ∙ ap (λ (a : Answer). counted 0 (length a.bytes)) (h.is right_tests.0 right_tests.1),
   )
   answer_wrote (Err f) known s u h k = tt
 

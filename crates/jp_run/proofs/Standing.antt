@@ -32,7 +32,7 @@ use Rattle.jp_run.proofs.Wrote.{wrote_none, wrote_more}
 module _ (going : Manner) (q : FilteredQuery) where
   pub stands_start : (a s u : Option (List ℕ)) (st : Stream) → Keeps s u
       → st.buffer ≡ nothing_come going.numbering → st.come ≡ 0
-      → st.answered ≡ record { lines = 0; faulty = 0; wrote = false }
+      → st.answered ≡ record { lines = 0; faulty = 0; wrote = 0 }
       → Stands going q a a s u st
   stands_start a s u st same e g h = record {
     front = [];

@@ -1,6 +1,6 @@
 -- What a run by some settings has done of texts that are accepted, however it ended.
 use Rattle.std.specs.Prelude.{◌≡◌, ℕ, ◌+◌, ◌<◌, ◌≤◌, ◌⊎◌, List, length, false, true, Some, None, Result}
-use Rattle.std.specs.Prelude.{IfOk, OnOk, OnErr, IfSome, IsErrOf, nat_lt}
+use Rattle.std.specs.Prelude.{IfOk, OnOk, OnErr, IfSome, IsErrOf}
 use Rattle.std.specs.Io.KnownBytes.{Appends, Consumes, IsAtEnd}
 use Rattle.jp_doc.specs.declared.fault.DocFault.{DocFault}
 use Rattle.jp_answer.specs.Answer.{Answer}
@@ -8,6 +8,7 @@ use Rattle.jp_answer.specs.declared.on_fault.OnFault.TheVariants.{Stop, KeepGoin
 use Rattle.jp_run.specs.Answered.{IsAnswerBy, manner_of, numbering_of, passed_in}
 use Rattle.jp_run.specs.AskedTexts.{AskedTexts}
 use Rattle.jp_run.specs.Begun.{AllSince}
+use Rattle.jp_run.specs.Counts.{counted}
 use Rattle.jp_run.specs.Cutting.{documents, documents_in, last_number, part_count}
 use Rattle.jp_run.specs.Handed.{IsHandedBy}
 use Rattle.jp_run.specs.Limits.{max_lines, max_reads, window as window_bytes}
@@ -36,7 +37,7 @@ pub record IsRunOf {S K : Type 0} (asked : AskedTexts) (settings : Settings) (so
       (λ input. totals.faulty ≡ passed_in settings (documents (numbering_of settings) input)))
   pub none_passed : settings.on_fault ≡ Stop → IfOk result (λ totals. totals.faulty ≡ 0)
   pub wrote : IfOk result (λ totals. IfSome (source.remaining a) (λ input. (x : Answer)
-      × IsAnswerBy (manner_of settings) asked input x × (totals.wrote ≡ nat_lt 0 (length x.bytes))))
+      × IsAnswerBy (manner_of settings) asked input x × (totals.wrote ≡ counted 0 (length x.bytes))))
   pub few_lines : IfOk result (λ totals. totals.lines ≤ max_lines)
   pub end : OnOk result (IsAtEnd (source.remaining b))
   pub flushed : OnOk result (k.flushed w ≡ true)

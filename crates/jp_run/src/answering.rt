@@ -14,7 +14,7 @@ use crate::fault::RunFault;
 use crate::job::Job;
 use crate::stream::Passed;
 use crate::telling::tell_gate;
-use crate::writing::{hand_out, has_bytes};
+use crate::writing::{byte_count, hand_out};
 use jp_answer::{Answerer, Gate, Outcome};
 use jp_buffer::LineRef;
 use jp_output::Form;
@@ -35,12 +35,12 @@ pub(crate) fn answer_lines<R: Threads + Sync, K: Sink, G: Gate + Sync, F: Form +
     let batch = job.settings.batch as usize;
     let mut done = 0;
     let mut faulty = 0;
-    let mut wrote = false;
+    let mut wrote: u64 = 0;
     while done < lines.len() {
         let front = batch_at(&*lines, done, batch);
         let passed = answer_batch::<R, K, G, F>(job, front, sink)?;
         faulty += passed.faulty;
-        wrote |= passed.wrote;
+        wrote = wrote.saturating_add(passed.wrote);
         done += front.len();
     }
     Ok(Passed { faulty, wrote })
@@ -74,7 +74,7 @@ fn answer_batch<R: Threads + Sync, K: Sink, G: Gate + Sync, F: Form + Drop + Sen
     hand_out(sink, &answer)?;
     Ok(Passed {
         faulty: answer.faulty,
-        wrote: has_bytes(&answer),
+        wrote: byte_count(&answer),
     })
 }
 

@@ -13,7 +13,7 @@ use crate::limits::WINDOW_BYTES;
 use crate::settling::answer_come;
 use crate::stream::Stream;
 use crate::telling::tell_waiting;
-use crate::writing::{hand_out, has_bytes};
+use crate::writing::{byte_count, hand_out};
 use jp_answer::{Answerer, Gate, Outcome, Queue, Sent};
 use jp_output::Form;
 use std::thread::Threads;
@@ -170,7 +170,7 @@ fn write_answer<R: Threads + Sync, K: Sink, G: Gate + Sync, F: Form + Drop + Sen
     hand_out(sink, answer)?;
     stream.answered.lines += lines.len() as u64;
     stream.answered.faulty += answer.faulty;
-    stream.answered.wrote |= has_bytes(answer);
+    stream.answered.wrote = stream.answered.wrote.saturating_add(byte_count(answer));
     stream.come -= front.bytes;
     Ok(())
 }

@@ -1,7 +1,7 @@
 //! A run over a collection.
 
 ghost use Rattle.std.specs.Prelude.{◌≡◌, ◌+◌, ◌^◌, ◌<◌, ◌≤◌, ◌⊎◌, ◌↔◌, ℕ, List, length, false, true, Some};
-ghost use Rattle.std.specs.Prelude.{None, Err, IfOk, IfErr, OnOk, OnErr, IfSome, IsErrOf, nat_lt};
+ghost use Rattle.std.specs.Prelude.{None, Err, IfOk, IfErr, OnOk, OnErr, IfSome, IsErrOf};
 ghost use Rattle.std.specs.Io.KnownBytes.{Appends, Consumes, IsAtEnd};
 ghost use Rattle.std.specs.Str.{chars};
 ghost use Rattle.jp_doc.specs.declared.fault.DocFault.{DocFault as Fault};
@@ -14,6 +14,7 @@ ghost use Rattle.jp_answer.specs.declared.on_fault.OnFault.TheVariants.{Stop, Ke
 ghost use Rattle.jp_run.specs.Answered.{IsAnswerBy, manner_in, manner_of, numbering_of, passed_in};
 ghost use Rattle.jp_run.specs.AskedTexts.{AreAcceptedIn, AreRefusedIn, IsFilterRefused, asked_by};
 ghost use Rattle.jp_run.specs.Begun.{AllSince};
+ghost use Rattle.jp_run.specs.Counts.{counted};
 ghost use Rattle.jp_run.specs.Cutting.{documents, documents_in, last_number, part_count};
 ghost use Rattle.jp_run.specs.inner.Running.{HasRun};
 ghost use Rattle.jp_run.specs.Handed.{IsHandedBy};
@@ -49,9 +50,9 @@ pub struct Totals {
     pub documents: u64,
     /// The number of faulty lines: 0 where the answer doesn't keep going.
     pub faulty: u64,
-    /// Whether the answer has a byte: it has none exactly where nothing is selected and no faulty line was
-    /// told.
-    pub wrote: bool,
+    /// The number of bytes of the answer, which stops at 18446744073709551615. It is 0 exactly where nothing
+    /// is selected and no faulty line was told.
+    pub wrote: u64,
 }
 
 impl Totals {
@@ -127,10 +128,10 @@ pub fn run<R: Threads + Sync, S: Source<K>, K: Sink, G: Gate + Sync>(
         (λ input. totals.faulty ≡ passed_in settings.now (documents (numbering_of settings.now) input))) }
     // None, whatever the source tells of its bytes.
     ensures none_passed { settings.now.on_fault ≡ Stop → IfOk result (λ totals. totals.faulty ≡ 0) }
-    // Whether the answer has a byte.
+    // How many bytes the answer has.
     ensures wrote { IfOk result (λ totals. IfSome (S.remaining source.old) (λ input. (a : Answer)
         × IsAnswerBy (manner_of settings.now) (asked_by query.now settings.now) input a
-        × (totals.wrote ≡ nat_lt 0 (length a.bytes)))) }
+        × (totals.wrote ≡ counted 0 (length a.bytes)))) }
     ensures few_lines { IfOk result (λ totals. totals.lines ≤ max_lines) }
     ensures end { OnOk result (IsAtEnd (S.remaining source.new)) }
     ensures flushed { OnOk result (K.flushed sink.new ≡ true) }

@@ -90,7 +90,7 @@ pub(crate) fn answer_come<R: Threads + Sync, K: Sink, G: Gate + Sync, F: Form + 
     let passed = answer_waiting::<R, K, G, F>(job, sink, &stream.buffer)?;
     stream.answered.lines += count as u64;
     stream.answered.faulty += passed.faulty;
-    stream.answered.wrote |= passed.wrote;
+    stream.answered.wrote = stream.answered.wrote.saturating_add(passed.wrote);
     stream.buffer.take_away(count);
     stream.come = 0;
     Ok(())
@@ -111,7 +111,7 @@ fn answer_waiting<R: Threads + Sync, K: Sink, G: Gate + Sync, F: Form + Drop + S
     if buffer.len() == 0 {
         return Ok(Passed {
             faulty: 0,
-            wrote: false,
+            wrote: 0,
         });
     }
     let lines = buffer.lines(job.crew.alloc)?;

@@ -30,8 +30,8 @@ pub(crate) struct Answered {
     pub(crate) lines: u64,
     /// How many faulty lines the answer has passed.
     pub(crate) faulty: u64,
-    /// Whether any byte was written.
-    pub(crate) wrote: bool,
+    /// How many bytes were written, which stops at 18446744073709551615.
+    pub(crate) wrote: u64,
 }
 
 /// What some lines, which are answered, add to that.
@@ -39,8 +39,8 @@ pub(crate) struct Answered {
 pub(crate) struct Passed {
     /// How many faulty lines their answer passes.
     pub(crate) faulty: u64,
-    /// Whether it has a byte.
-    pub(crate) wrote: bool,
+    /// How many bytes it has, which stops at 18446744073709551615.
+    pub(crate) wrote: u64,
 }
 
 impl Stream {
@@ -57,7 +57,7 @@ impl Stream {
         ensures buffer { IfOk result (λ s. s.buffer
             ≡ nothing_come (record { cutting = cutting; before = before })) }
         ensures come { IfOk result (λ s. s.come ≡ 0) }
-        ensures answered { IfOk result (λ s. s.answered ≡ record { lines = 0; faulty = 0; wrote = false }) }
+        ensures answered { IfOk result (λ s. s.answered ≡ record { lines = 0; faulty = 0; wrote = 0 }) }
     {
         // A source may write anything into what it is given, also where it fails: so that is no line's
         // memory.
@@ -72,7 +72,7 @@ impl Stream {
             answered: Answered {
                 lines: 0,
                 faulty: 0,
-                wrote: false,
+                wrote: 0,
             },
         })
     }

@@ -1,9 +1,10 @@
 //! An answer to a sink.
 
-ghost use Rattle.std.specs.Prelude.{◌≡◌, false, true, nat_lt, length, None, OnOk, OnErr, IfErr};
+ghost use Rattle.std.specs.Prelude.{◌≡◌, false, true, length, None, OnOk, OnErr, IfErr};
 ghost use Rattle.std.specs.Io.KnownBytes.{Appends, Keeps};
 ghost use Rattle.jp_answer.specs.Answered.{outcome_of};
 ghost use Rattle.jp_output.specs.Chunks.{bytes_in};
+ghost use Rattle.jp_run.specs.Counts.{counted};
 ghost use Rattle.jp_run.specs.inner.Ended.{HandingEnded};
 ghost use Rattle.jp_run.specs.Written.{AppendsFront, IsPassedOn};
 
@@ -55,16 +56,15 @@ fn write_chunks<K: Sink>(sink: &mut K, chunks: &[Vec<u8>]) -> Result<(), Broken>
     Ok(())
 }
 
-/// Whether an answer has a byte.
-pub(crate) fn has_bytes(answer: &Outcome) -> bool
-    ensures { result ≡ nat_lt 0 (length (outcome_of answer.now).bytes) }
+/// How many bytes an answer has, which stops at 18446744073709551615.
+pub(crate) fn byte_count(answer: &Outcome) -> u64
+    ensures { result ≡ counted 0 (length (outcome_of answer.now).bytes) }
 {
+    let mut count: u64 = 0;
     for chunk in &answer.chunks {
-        if !chunk.is_empty() {
-            return true;
-        }
+        count = count.saturating_add(chunk.len() as u64);
     }
-    false
+    count
 }
 
 /// Hands over the bytes of an answer and passes them on, and then tells its faulty line, if there is one.

@@ -24,6 +24,7 @@ wanted_of w = record {
   names = w.names;
   cutting = w.settings.cutting;
   check = w.check;
+  counts = w.counts;
   output = w.settings.output;
   ending = w.settings.ending;
   fields = map field_of w.fields.items;

@@ -1,6 +1,6 @@
 -- A working file, which nobody has to believe: lines that are answered on the calling thread, for private
 -- clauses alone.
-use Rattle.std.specs.Prelude.{◌≡◌, ℕ, List, None, Result, IfOk, OnOk, IfErr}
+use Rattle.std.specs.Prelude.{◌≡◌, List, None, Result, IfOk, OnOk, IfErr}
 use Rattle.jp_doc.specs.Lines.{Line}
 use Rattle.jp_output.specs.OutputForm.{OutputForm}
 use Rattle.jp_output.specs.declared.layout.Layout.{Layout}

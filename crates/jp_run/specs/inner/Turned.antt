@@ -1,5 +1,5 @@
 -- A working file, which nobody has to believe: a turn of a run, for private clauses alone.
-use Rattle.std.specs.Prelude.{◌≡◌, ℕ, ◌+◌, ◌<◌, ◌≤◌, ◌^◌, false, List, Result, IfOk, OnOk, IfErr}
+use Rattle.std.specs.Prelude.{◌≡◌, ◌+◌, ◌<◌, ◌≤◌, ◌^◌, false, Result, IfOk, OnOk, IfErr}
 use Rattle.jp_output.specs.OutputForm.{OutputForm}
 use Rattle.jp_output.specs.declared.layout.Layout.{Layout}
 use Rattle.jp_run.specs.Answered.{manner_in}

@@ -1,7 +1,6 @@
-use Rattle.std.proofs.Common.{◌≡◌, ◌∙◌, ◌<◌, [], true, false, None, IfOk, IfErr}
+use Rattle.std.proofs.Common.{◌≡◌, ◌∙◌, ◌<◌, [], true, false, None, IfOk}
 use Rattle.std.proofs.Common.{inl, inr, refl, ap, subst, sym}
 use Rattle.std.proofs.Common.{map}
-use Rattle.jp_answer.specs.declared.on_fault.OnFault.TheVariants.{KeepGoing}
 use Rattle.jp_run.proofs.Accepted.{none_refused, refusal_told, refused_so}
 use Rattle.jp_run.proofs.Handing.{at_ok}
 use Rattle.jp_run.proofs.Readings.{none_yet}
@@ -18,7 +17,7 @@ use Rattle.jp_program.proofs.Ran.{past_so, opened_none, prepared_by, taken_by, n
 use Rattle.jp_program.proofs.Ran.{something_alone}
 use Rattle.jp_program.proofs.Ran.{run_so, files_so, finished_files, past_files, nothing_files}
 use Rattle.jp_program.proofs.Ran.{something_files}
-use Rattle.jp_program.proofs.Ran.{opened_files, no_files, no_memory, some_files, both_files, file_left}
+use Rattle.jp_program.proofs.Ran.{opened_files, no_files, no_memory, some_files, both_files}
 use Rattle.jp_program.proofs.Ran.{query_ended}
 use Rattle.jp_program.proofs.command.done.Goals as goal
 
@@ -37,10 +36,10 @@ returns-in_err-text-clause-query g c = λ f e two.
     not_text _ _ f _ c.from_residual.ensures.1 c.in_err-text.ensures.fault e two
 
 pub returns-in_err-text-clause-prompt : goal.returns-in_err-text-clause-prompt
-returns-in_err-text-clause-prompt g c = λ w wants none. none_yet _ _ _ refl
+returns-in_err-text-clause-prompt g c = λ w wants none off. none_yet _ _ _ refl
 
 pub returns-in_err-text-clause-window : goal.returns-in_err-text-clause-window
-returns-in_err-text-clause-window g c = λ w wants none. none_yet _ _ _ refl
+returns-in_err-text-clause-window g c = λ w wants none off. none_yet _ _ _ refl
 
 pub returns-in-Show-clause-refused : goal.returns-in-Show-clause-refused
 returns-in-Show-clause-refused g c = λ f w wants v. not_shown _ w wants
@@ -59,10 +58,10 @@ returns-in-Show-clause-nothing g c = λ w wants. not_shown _ w wants.0
     (subst (IsAsked _) c.in-Show.is c.in_ok-text.ensures.asked)
 
 pub returns-in-Show-clause-prompt : goal.returns-in-Show-clause-prompt
-returns-in-Show-clause-prompt g c = λ w wants none. none_yet _ _ _ refl
+returns-in-Show-clause-prompt g c = λ w wants none off. none_yet _ _ _ refl
 
 pub returns-in-Show-clause-window : goal.returns-in-Show-clause-window
-returns-in-Show-clause-window g c = λ w wants none. none_yet _ _ _ refl
+returns-in-Show-clause-window g c = λ w wants none off. none_yet _ _ _ refl
 
 -- what is refused
 
@@ -89,10 +88,10 @@ returns-in_err-prepared-in-Query-clause-query g c = λ f e two. (
 )
 
 pub returns-in_err-prepared-in-Query-clause-prompt : goal.returns-in_err-prepared-in-Query-clause-prompt
-returns-in_err-prepared-in-Query-clause-prompt g c = λ w wants none. none_yet _ _ _ refl
+returns-in_err-prepared-in-Query-clause-prompt g c = λ w wants none off. none_yet _ _ _ refl
 
 pub returns-in_err-prepared-in-Query-clause-window : goal.returns-in_err-prepared-in-Query-clause-window
-returns-in_err-prepared-in-Query-clause-window g c = λ w wants none. none_yet _ _ _ refl
+returns-in_err-prepared-in-Query-clause-window g c = λ w wants none off. none_yet _ _ _ refl
 
 -- a check
 
@@ -132,10 +131,10 @@ returns-then-wanted-clause-unnoted g c = λ f w wants v.
     (refused_wish _ _ _ w f c.in-Query.is c.in_ok-text.ensures.asked wants v)
 
 pub returns-then-wanted-clause-prompt : goal.returns-then-wanted-clause-prompt
-returns-then-wanted-clause-prompt g c = λ w wants none. none_yet _ _ _ refl
+returns-then-wanted-clause-prompt g c = λ w wants none off. none_yet _ _ _ refl
 
 pub returns-then-wanted-clause-window : goal.returns-then-wanted-clause-window
-returns-then-wanted-clause-window g c = λ w wants none. none_yet _ _ _ refl
+returns-then-wanted-clause-window g c = λ w wants none off. none_yet _ _ _ refl
 
 -- a run over standard input
 
@@ -156,10 +155,11 @@ returns-then-is_alone-clause-finished g c =
     let broken = g.I.Inputs.broken c.args.inputs.now in
     finished_so _ w (wants_of _ _ _ c.in-Query.is c.in_ok-text.ensures.asked c.if-wanted.false)
     (λ x. EachInTurn (IsAnswered x None) (inputs_of x.files holds first) old new)
-    (λ x. AreOpened x opens opens broken broken) _ _ _ _ _ _ c.run_named.result c.run_named.ensures.taken
-    (finished_alone w holds first old new none c.run_named.result c.run_named.ensures.finished)
+    (λ x. AreOpened x opens opens broken broken) _ _ _ _ _ _ c.run_named.result
+    c.run_named.ensures.turned.taken
+    (finished_alone w holds first old new none c.run_named.result c.run_named.ensures.turned.finished)
     (at_ok c.run_named.result (opened_none w none opens broken c.requires.few.2))
-    c.run_named.ensures.end c.run_named.ensures.flushed c.run_named.ensures.still_working
+    c.run_named.ensures.turned.end c.run_named.ensures.turned.flushed c.run_named.ensures.turned.still_working
 
 pub returns-then-is_alone-clause-past : goal.returns-then-is_alone-clause-past
 returns-then-is_alone-clause-past g c =
@@ -174,10 +174,10 @@ returns-then-is_alone-clause-past g c =
     past_so _ w (wants_of _ _ _ c.in-Query.is c.in_ok-text.ensures.asked c.if-wanted.false)
     (λ x. ArePassed x (inputs_of x.files holds first) old new)
     (λ x. AreOpened x opens opens broken broken) _ _ _ _ c.run_named.result
-    (past_alone w holds first old new none c.run_named.result c.run_named.ensures.passes
-    c.run_named.ensures.none_passed)
+    (past_alone w holds first old new none c.run_named.result c.run_named.ensures.turned.passes
+    c.run_named.ensures.turned.none_passed)
     (at_ok c.run_named.result (opened_none w none opens broken c.requires.few.2))
-    c.run_named.ensures.end c.run_named.ensures.flushed c.run_named.ensures.still_working
+    c.run_named.ensures.turned.end c.run_named.ensures.turned.flushed c.run_named.ensures.turned.still_working
 
 pub returns-then-is_alone-clause-asked : goal.returns-then-is_alone-clause-asked
 returns-then-is_alone-clause-asked g c = λ w wants. at_ok c.run_named.result
@@ -197,10 +197,10 @@ returns-then-is_alone-clause-nothing g c = λ w wants.
     let none = no_files _ c.in-Query.wanted.files c.is_empty-is_alone.ensures c.if-is_alone.true in
     let holds = g.I.Inputs.holds c.args.inputs.now in
     let first = g.S.Supply.remaining c.args.source.now in
-    subst (λ (x : Wanted). IfOk c.run_named.result (λ totals. totals.wrote ≡ false
+    subst (λ (x : Wanted). IfOk c.run_named.result (λ totals. totals.wrote ≡ 0
     → AreEmptyAnswers x (inputs_of x.files holds first)))
     (sym (asked_is _ _ _ w c.in-Query.is c.in_ok-text.ensures.asked wants.0))
-    (nothing_alone v none holds first c.run_named.result c.run_named.ensures.nothing)
+    (nothing_alone v none holds first c.run_named.result c.run_named.ensures.turned.nothing)
 
 pub returns-then-is_alone-clause-something : goal.returns-then-is_alone-clause-something
 returns-then-is_alone-clause-something g c = λ w wants.
@@ -208,10 +208,10 @@ returns-then-is_alone-clause-something g c = λ w wants.
     let none = no_files _ c.in-Query.wanted.files c.is_empty-is_alone.ensures c.if-is_alone.true in
     let holds = g.I.Inputs.holds c.args.inputs.now in
     let first = g.S.Supply.remaining c.args.source.now in
-    subst (λ (x : Wanted). IfOk c.run_named.result (λ totals. totals.wrote ≡ true
+    subst (λ (x : Wanted). IfOk c.run_named.result (λ totals. 0 < totals.wrote
     → AreKnownEmptyAnswers x (inputs_of x.files holds first) → ⊥))
     (sym (asked_is _ _ _ w c.in-Query.is c.in_ok-text.ensures.asked wants.0))
-    (something_alone v none holds first c.run_named.result c.run_named.ensures.something)
+    (something_alone v none holds first c.run_named.result c.run_named.ensures.turned.something)
 
 pub returns-then-is_alone-clause-refused : goal.returns-then-is_alone-clause-refused
 returns-then-is_alone-clause-refused g c = λ f w wants v.
@@ -225,7 +225,7 @@ returns-then-is_alone-clause-check g c = λ w wants.
 
 pub returns-then-is_alone-clause-query : goal.returns-then-is_alone-clause-query
 returns-then-is_alone-clause-query g c = λ f e two.
-    absurd (c.run_named.ensures.query f e two)
+    absurd (c.run_named.ensures.turned.query f e two)
 
 pub returns-then-is_alone-clause-fault : goal.returns-then-is_alone-clause-fault
 returns-then-is_alone-clause-fault g c =
@@ -251,8 +251,8 @@ returns-then-is_alone-clause-fault g c =
     run_so _ w (wants_of _ _ _ c.in-Query.is c.in_ok-text.ensures.asked c.if-wanted.false)
     (g.I.Inputs.holds c.args.inputs.now) first course left _
     (no_files _ c.in-Query.wanted.files c.is_empty-is_alone.ensures c.if-is_alone.true)
-    c.run_named.result c.run_named.ensures.goes_on
-    c.run_named.ensures.fault
+    c.run_named.result c.run_named.ensures.turned.goes_on
+    c.run_named.ensures.turned.fault
 
 pub returns-then-is_alone-clause-prompt : goal.returns-then-is_alone-clause-prompt
 returns-then-is_alone-clause-prompt g c = λ w wants none.
@@ -343,7 +343,7 @@ returns-else-is_alone-clause-nothing g c = λ w wants.
     c.if-is_alone.false in
     let holds = g.I.Inputs.holds c.args.inputs.now in
     let first = g.S.Supply.remaining c.args.source.now in
-    subst (λ (x : Wanted). IfOk c.answer_files.result (λ totals. totals.wrote ≡ false
+    subst (λ (x : Wanted). IfOk c.answer_files.result (λ totals. totals.wrote ≡ 0
     → AreEmptyAnswers x (inputs_of x.files holds first)))
     (sym (asked_is _ _ _ w c.in-Query.is c.in_ok-text.ensures.asked wants.0))
     (nothing_files v some holds first c.answer_files.result
@@ -356,7 +356,7 @@ returns-else-is_alone-clause-something g c = λ w wants.
     c.if-is_alone.false in
     let holds = g.I.Inputs.holds c.args.inputs.now in
     let first = g.S.Supply.remaining c.args.source.now in
-    subst (λ (x : Wanted). IfOk c.answer_files.result (λ totals. totals.wrote ≡ true
+    subst (λ (x : Wanted). IfOk c.answer_files.result (λ totals. 0 < totals.wrote
     → AreKnownEmptyAnswers x (inputs_of x.files holds first) → ⊥))
     (sym (asked_is _ _ _ w c.in-Query.is c.in_ok-text.ensures.asked wants.0))
     (something_files v some holds first c.answer_files.result

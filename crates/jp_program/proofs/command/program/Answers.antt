@@ -166,8 +166,8 @@ returns-clause-check g c = λ w wants.
     let same = c.in-Err.ensures.check w wants in
     (same.0, same.1, kept_from g.K.Sink.contents _ _ _ same.2 c.pass_on_after.ensures.kept)
 
-pub returns-then-not-totals-2-clause-finished : goal.returns-then-not-totals-2-clause-finished
-returns-then-not-totals-2-clause-finished g c = λ e.
+pub returns-then-totals-eq0-2-clause-finished : goal.returns-then-totals-eq0-2-clause-finished
+returns-then-totals-eq0-2-clause-finished g c = λ e.
     inr (c.in-Ok.ensures.finished (grind (arith, common_steps, c.if-totals-gt0.false)))
 
 pub returns-in-Ok-clause-finished : goal.returns-in-Ok-clause-finished

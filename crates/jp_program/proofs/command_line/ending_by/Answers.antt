@@ -1,6 +1,4 @@
 use Rattle.std.proofs.Common.{refl}
-use Rattle.clap.specs.Words.{found_of, rows_of}
-use Rattle.jp_program.proofs.Saying.{goes_with, null_unsaid}
 use Rattle.jp_program.proofs.command_line.ending_by.Goals as goal
 
 pub returns-in_err-null-clause-none : goal.returns-in_err-null-clause-none

@@ -1,7 +1,6 @@
-use Rattle.std.proofs.Common.{◌≡◌, ◌≢◌, ◌≤◌, ◌<◌, ◌∙◌, ap, sym, rules, arith, length, map, Bool, ◌==◌}
+use Rattle.std.proofs.Common.{◌≡◌, ◌≢◌, ◌≤◌, ◌<◌, ◌∙◌, ap, sym, rules, arith, length, map, ◌==◌}
 use Rattle.clap.specs.Walk.{texts}
 use Rattle.jp_output.specs.Rows.{field_of}
-use Rattle.jp_output.specs.declared.field.Field.{Field}
 use Rattle.jp_program.proofs.SaidFields.{are_read, given_length, not_so, some_so, too_many}
 use Rattle.jp_program.proofs.command_line.fields_of.Goals as goal
 use Rattle.jp_program.proofs.command_line.fields_of.Goals.{then-is_empty-has_fields-via-then-is_empty-has_fields}

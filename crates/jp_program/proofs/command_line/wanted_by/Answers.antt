@@ -1,8 +1,5 @@
-use Rattle.std.proofs.Common.{refl, subst, sym, ◌∙◌}
+use Rattle.std.proofs.Common.{refl, subst, sym}
 use Rattle.std.specs.Prelude.{IsNone}
-use Rattle.clap.specs.Words.{found_of, rows_of}
-use Rattle.jp_program.specs.Wanted.{SaysFields}
-use Rattle.jp_program.proofs.OneWish.{output_same}
 use Rattle.jp_program.proofs.command_line.wanted_by.Goals as goal
 
 pub returns-in_default-clause-none : goal.returns-in_default-clause-none

@@ -3,10 +3,11 @@ use Rattle.std.specs.Str.{chars}
 use Rattle.clap.specs.Words.{found_of, rows_of, first_value}
 use Rattle.clap.proofs.WalkLemmas.{first_value-rows}
 use Rattle.jp_program.specs.Wanted.{SaysCutting, SaysEnding, SaysFilter, SaysNames, SaysNumbers, SaysOnFault}
-use Rattle.jp_program.specs.Wanted.{SaysFields, SaysOutput}
+use Rattle.jp_program.specs.Wanted.{SaysCounts, SaysFields, SaysOutput}
 use Rattle.jp_output.specs.Rows.{field_of}
 use Rattle.jp_program.proofs.OneWish.{output_same}
-use Rattle.jp_program.proofs.Saying.{ending_said, filter_said, flag_said, query_some, query_none, sizes_kept}
+use Rattle.jp_program.proofs.Saying.{counts_said, ending_said, filter_said, flag_said, query_some, query_none}
+use Rattle.jp_program.proofs.Saying.{sizes_kept}
 use Rattle.jp_program.proofs.command_line.wanted_of_files.Goals as goal
 
 pub returns-in_err-query-clause-none : goal.returns-in_err-query-clause-none
@@ -20,6 +21,11 @@ pub returns-in_err-names-clause-none : goal.returns-in_err-names-clause-none
 returns-in_err-names-clause-none c = λ h w s. c.in_err-names.ensures.none refl w.names
     (subst (λ fs. SaysNames (rows_of (found_of c.args.matches.now)) fs w.names)
     (sym s.files.0 ∙ c.requires.said.0) s.names)
+
+pub returns-in_err-counts-clause-none : goal.returns-in_err-counts-clause-none
+returns-in_err-counts-clause-none c = λ h w s. c.in_err-counts.ensures.none refl w.counts
+    (subst (λ o. SaysCounts (rows_of (found_of c.args.matches.now)) o w.counts)
+    (output_same w.output c.args.output (sym s.output ∙ c.requires.form)) s.counts)
 
 pub returns-in_err-ending-clause-none : goal.returns-in_err-ending-clause-none
 returns-in_err-ending-clause-none c = λ h w s. c.in_err-ending.ensures.none refl w.ending
@@ -45,19 +51,23 @@ returns-clause-some c =
           (first_value-rows found (codes "where")) c.get_str-2.result c.get_str-2.ensures);
       files = c.requires.said;
       names = c.in_ok-names.ensures.some;
-      cutting = subst (SaysCutting (rows_of found)) (sym (kept.7 ∙ ended.7 ∙ c.in_ok-settings.ensures.cutting))
+      cutting = subst (SaysCutting (rows_of found))
+          (sym (kept.7 ∙ ended.7 ∙ c.in_ok-settings.ensures.cutting))
           (flag_said (codes "documents") (rows_of found) _ _ c.in_ok-documents.ensures.some
           c.cutting_of.ensures);
       check = c.in_ok-check.ensures.some;
+      counts = counts_said (rows_of found) _ _ _ form c.in_ok-counts.ensures.some;
       output = subst (SaysOutput (rows_of found)) (sym form) c.requires.form;
       ending = ending_said (rows_of found) _ _ _ _ form (kept.9 ∙ c.with_ending.ensures.ending)
           c.in_ok-ending.ensures.some;
       fields = subst (λ o. SaysFields (rows_of found) o (map field_of c.args.fields.items)) (sym form)
           c.requires.fields;
-      numbers = subst (SaysNumbers (rows_of found)) (sym (kept.4 ∙ ended.4 ∙ c.in_ok-settings.ensures.numbers))
+      numbers = subst (SaysNumbers (rows_of found))
+          (sym (kept.4 ∙ ended.4 ∙ c.in_ok-settings.ensures.numbers))
           (flag_said (codes "decimals") (rows_of found) _ _ c.in_ok-decimals.ensures.some
           c.numbers_for.ensures);
-      on_fault = subst (SaysOnFault (rows_of found)) (sym (kept.3 ∙ ended.3 ∙ c.in_ok-settings.ensures.on_fault))
+      on_fault = subst (SaysOnFault (rows_of found))
+          (sym (kept.3 ∙ ended.3 ∙ c.in_ok-settings.ensures.on_fault))
           (flag_said (codes "keep-going") (rows_of found) _ _ c.in_ok-keep_going.ensures.some
           c.on_fault_for.ensures);
       explain = c.in_ok-explain.ensures.some;

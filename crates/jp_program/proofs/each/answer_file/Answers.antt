@@ -1,4 +1,4 @@
-use Rattle.std.proofs.Common.{◌≡◌, ◌∙◌, ℕ, true, false, List, Option, None, refl, subst, sym}
+use Rattle.std.proofs.Common.{◌≡◌, ◌∙◌, ◌<◌, ℕ, List, Option, None, refl, subst, sym}
 use Rattle.std.proofs.Common.{IfOk, IfErr, OnOk}
 use Rattle.clap.specs.Walk.{Text}
 use Rattle.jp_run.specs.Counts.{counted}
@@ -27,7 +27,7 @@ returns-clause-whole g c =
     let name : Text = c.args.name.now in
     subst (λ (o : Option (List ℕ)). OnOk c.run_named.result (IsWhole w (name, o)
     (g.K.Sink.contents c.args.sink.now) (g.K.Sink.contents c.run_named.new.sink)))
-    c.open.ensures.bytes c.run_named.ensures.whole
+    c.open.ensures.bytes c.run_named.ensures.turned.whole
 
 pub returns-clause-finished : goal.returns-clause-finished
 returns-clause-finished g c =
@@ -35,7 +35,7 @@ returns-clause-finished g c =
     let name : Text = c.args.name.now in
     subst (λ (o : Option (List ℕ)). IfOk c.run_named.result (λ totals. totals.faulty ≡ 0
     → IsAnswered w None (name, o) (g.K.Sink.contents c.args.sink.now)
-    (g.K.Sink.contents c.run_named.new.sink))) c.open.ensures.bytes c.run_named.ensures.finished
+    (g.K.Sink.contents c.run_named.new.sink))) c.open.ensures.bytes c.run_named.ensures.turned.finished
 
 pub returns-clause-passes : goal.returns-clause-passes
 returns-clause-passes g c = λ on.
@@ -44,21 +44,21 @@ returns-clause-passes g c = λ on.
     subst (λ (o : Option (List ℕ)). IfOk c.run_named.result (λ totals. (n : ℕ)
     → Passes w (name, o) (g.K.Sink.contents c.args.sink.now, n)
     (g.K.Sink.contents c.run_named.new.sink, counted n totals.faulty)))
-    c.open.ensures.bytes (c.run_named.ensures.passes on)
+    c.open.ensures.bytes (c.run_named.ensures.turned.passes on)
 
 pub returns-clause-nothing : goal.returns-clause-nothing
 returns-clause-nothing g c =
     let w : Wanted = wanted_of c.args.search.now.wanted.now in
     let name : Text = c.args.name.now in
-    subst (λ (o : Option (List ℕ)). IfOk c.run_named.result (λ totals. totals.wrote ≡ false
-    → IsEmptyAnswer w (name, o))) c.open.ensures.bytes c.run_named.ensures.nothing
+    subst (λ (o : Option (List ℕ)). IfOk c.run_named.result (λ totals. totals.wrote ≡ 0
+    → IsEmptyAnswer w (name, o))) c.open.ensures.bytes c.run_named.ensures.turned.nothing
 
 pub returns-clause-something : goal.returns-clause-something
 returns-clause-something g c =
     let w : Wanted = wanted_of c.args.search.now.wanted.now in
     let name : Text = c.args.name.now in
-    subst (λ (o : Option (List ℕ)). IfOk c.run_named.result (λ totals. totals.wrote ≡ true
-    → IsKnownEmptyAnswer w (name, o) → ⊥)) c.open.ensures.bytes c.run_named.ensures.something
+    subst (λ (o : Option (List ℕ)). IfOk c.run_named.result (λ totals. 0 < totals.wrote
+    → IsKnownEmptyAnswer w (name, o) → ⊥)) c.open.ensures.bytes c.run_named.ensures.turned.something
 
 pub returns-clause-fault : goal.returns-clause-fault
 returns-clause-fault g c =
@@ -76,4 +76,4 @@ returns-clause-fault g c =
     subst (λ (n : ℕ). IfErr c.run_named.result (λ f. RunEnded w (record e { reads = n }) f
     (named (g.I.Inputs.holds c.args.inputs.now) name) old new)) c.open.ensures.unread
     (subst (λ (o : Option (List ℕ)). IfErr c.run_named.result (λ f. RunEnded w e f (name, o) old new))
-    c.open.ensures.bytes c.run_named.ensures.fault)
+    c.open.ensures.bytes c.run_named.ensures.turned.fault)

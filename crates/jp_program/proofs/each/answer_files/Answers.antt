@@ -12,7 +12,7 @@ use Rattle.jp_program.specs.Outcome.{IsAnswered, IsEmptyAnswer, IsKnownEmptyAnsw
 use Rattle.jp_program.specs.Outcome.{Left, Passes}
 use Rattle.jp_program.specs.Wanted.{Wanted}
 use Rattle.jp_program.proofs.Going.{come_more, never_failed, none_of_both}
-use Rattle.jp_program.proofs.Turns.{none_of_two, one_of_two}
+use Rattle.jp_program.proofs.Turns.{none_counted, none_of_two, one_counted}
 use Rattle.jp_program.proofs.Turns.{file_more, file_ended, all_files_but_last, all_files_and_last}
 use Rattle.jp_program.proofs.each.answer_files.Goals as goal
 
@@ -34,7 +34,7 @@ loop-name-init g c = record {
   finished = λ fine e. refl;
   none_passed = λ off. refl;
   nothing = λ fine e. All-nil _;
-  something = λ fine e. absurd (cc);
+  something = λ fine e. absurd (omega (arith, e));
   end = λ fine some. absurd (omega (arith, some));
   flushed = λ fine some. absurd (omega (arith, some));
 }
@@ -75,13 +75,13 @@ loop-name-preserved g c =
       none_passed = λ off. let none = inv.none_passed off in let also = more.none_passed off in
           omega (arith, none, also, total);
       nothing = λ fine e. let none = none_of_two _ _ _ both fine in
-          let unwritten = none_of_two _ _ _ c.both-seen.ensures.wrote e in
+          let unwritten = none_counted _ _ _ c.both-seen.ensures.wrote e in
           all_files_and_last holds held inv.same names i _ h (IsEmptyAnswer w)
           (inv.nothing none.0 unwritten.0) (more.nothing none.1 unwritten.1);
       something = λ fine e all. let none = none_of_two _ _ _ both fine in
           let each = all_files_but_last holds held inv.same names i _ h
           (IsKnownEmptyAnswer w) all in
-          one_of_two _ _ _ c.both-seen.ensures.wrote e (λ is. inv.something none.0 is each.0)
+          one_counted _ _ _ c.both-seen.ensures.wrote e (λ is. inv.something none.0 is each.0)
           (λ is. more.something none.1 is each.1);
       end = λ fine some. more.end (none_of_two _ _ _ both fine).1;
       flushed = λ fine some. more.flushed (none_of_two _ _ _ both fine).1;

@@ -31,8 +31,8 @@ invariant-loop-name g l =
       finished : l.seen.has_failed ≡ false → l.seen.totals.faulty ≡ 0
           → EachInTurn (IsAnswered w None) done old now;
       none_passed : w.on_fault ≡ Stop → l.seen.totals.faulty ≡ 0;
-      nothing : l.seen.has_failed ≡ false → l.seen.totals.wrote ≡ false → AreEmptyAnswers w done;
-      something : l.seen.has_failed ≡ false → l.seen.totals.wrote ≡ true → AreKnownEmptyAnswers w done → ⊥;
+      nothing : l.seen.has_failed ≡ false → l.seen.totals.wrote ≡ 0 → AreEmptyAnswers w done;
+      something : l.seen.has_failed ≡ false → 0 < l.seen.totals.wrote → AreKnownEmptyAnswers w done → ⊥;
       end : l.seen.has_failed ≡ false → 0 < l.name-index → IsAtEnd (g.S.Supply.remaining l.source);
       flushed : l.seen.has_failed ≡ false → 0 < l.name-index → g.K.Sink.flushed l.sink ≡ true;
     }

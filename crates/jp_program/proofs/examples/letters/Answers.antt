@@ -16,6 +16,7 @@ returns c = (
     names = (false, refl, refl);
     cutting = refl;
     check = refl;
+    counts = (refl, tt);
     output = refl;
     ending = (refl, refl);
     fields = (refl, refl, omega arith);

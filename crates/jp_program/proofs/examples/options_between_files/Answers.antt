@@ -15,6 +15,7 @@ returns c = (
     names = (false, refl, refl);
     cutting = refl;
     check = refl;
+    counts = (refl, tt);
     output = refl;
     ending = (refl, tt);
     fields = (refl, refl, omega arith);

@@ -1,4 +1,5 @@
-use Rattle.std.proofs.Common.{◌≡◌, ◌∙◌, ℕ, ◌≤◌, ◌<◌, true, length, List, refl, sym, ap, arith, inr, [], ◌∷◌, Some, Option, codes}
+use Rattle.std.proofs.Common.{◌≡◌, ◌∙◌, ℕ, ◌≤◌, ◌<◌, true, length, List, refl, sym, ap, arith, inr, [], ◌∷◌}
+use Rattle.std.proofs.Common.{Some, Option, codes}
 use Rattle.std.proofs.Common.{subst, unwrap_or}
 use Rattle.std.proofs.lemmas.List.Elements.{All-head}
 use Rattle.std.specs.List.{All}

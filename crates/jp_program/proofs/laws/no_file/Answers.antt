@@ -11,7 +11,7 @@ use Rattle.jp_run.specs.AskedTexts.{AreAcceptedIn}
 use Rattle.jp_run.specs.Cutting.{documents}
 use Rattle.jp_program.specs.Inputs.{Course, EndsIn, Held, Input, Standing, named, standard}
 use Rattle.jp_program.specs.Outcome.{AreFailed, HasFailed, HasGoneOn, IsWholeOrCut, Left, Passes, form_for}
-use Rattle.jp_program.specs.Outcome.{asked_in, left_of, numbering_in}
+use Rattle.jp_program.specs.Outcome.{asked_in, left_of, numbering_in, told}
 use Rattle.jp_program.specs.Wanted.{Wanted}
 use Rattle.jp_program.proofs.Ran.{left_alone}
 use Rattle.jp_program.proofs.Told.{IsToldIn}
@@ -51,7 +51,7 @@ passed_by : (w : Wanted) (first old new : Option (List ℕ)) (n : ℕ) → 0 < n
     → IfSome first (λ bytes. (q : FilteredQuery) × AreAcceptedIn w.numbers (asked_in w) q
     × (x : Answer)
     × ((t : Tests) → AreRight t → answer_by (form_for w (codes "-")) (policy w.numbers KeepGoing) t q
-    (documents (numbering_in w) bytes) ≡ x) × (0 < x.faulty) × Appends old new x.bytes)
+    (documents (numbering_in w) bytes) ≡ x) × (0 < x.faulty) × Appends old new (told w (codes "-") x))
 passed_by w None old new n some h = tt
 passed_by w (Some bytes) old new n some h = (h.0, h.1, h.2, h.3, omega (arith, h.4, some), h.5)
 

@@ -16,6 +16,7 @@ returns c = λ name rest. (
     names = (false, refl, refl);
     cutting = refl;
     check = refl;
+    counts = (refl, tt);
     output = refl;
     ending = (refl, tt);
     fields = (refl, refl, omega arith);

@@ -29,7 +29,7 @@ returns g c = record {
     passed = search rules;
     wrote = wrote_whole (manner_in g.F.Form.says c.args.job.now.settings)
         (job_query c.args.job.now) (map line_at c.args.lines.now)
-        (outcome_of c.in_ok-answer.answer) _ c.in_ok-answer.ensures.answer c.has_bytes.ensures;
+        (outcome_of c.in_ok-answer.answer) _ c.in_ok-answer.ensures.answer c.byte_count.ensures;
     fault = search rules;
   };
 }

@@ -1,5 +1,5 @@
-use Rattle.std.proofs.Common.{◌≡◌, ◌∙◌, ℕ, ◌+◌, ◌||◌, ◌++◌, List, sym, ap, subst, map, take, drop, None}
-use Rattle.std.proofs.Common.{arith, length, length-take-le, take-append-drop, refl, rules}
+use Rattle.std.proofs.Common.{◌≡◌, ◌∙◌, ℕ, ◌+◌, ◌++◌, List, sym, ap, subst, map, take, drop, None}
+use Rattle.std.proofs.Common.{arith, length, length-take-le, take-append-drop, rules}
 use Rattle.std.proofs.Math.Seq.{take-add}
 use Rattle.std.proofs.lemmas.List.{take-map, drop-map, length-map}
 use Rattle.jp_buffer.specs.Buffered.{line_at}
@@ -12,7 +12,7 @@ use Rattle.jp_run.specs.Handed.{Handed}
 use Rattle.jp_run.specs.inner.Ended.{AnswerEnded}
 use Rattle.jp_run.specs.inner.Wrote.{HasBytes}
 use Rattle.jp_run.proofs.Handing.{told, handed_none, handed_both, ended_after, ended_more}
-use Rattle.jp_run.proofs.Wrote.{wrote_none, wrote_more, wrote_or}
+use Rattle.jp_run.proofs.Wrote.{wrote_none, wrote_more, wrote_on}
 use Rattle.jp_run.specs.inner.Jobs.{job_query}
 use Rattle.jp_run.proofs.answering.answer_lines.Goals as goal
 
@@ -128,10 +128,10 @@ loop-done-preserved g c =
       );
       wrote =
           let before = c.loop-done.wrote in
-          let wrote = c.in_ok-passed.passed.wrote in
-          subst (λ (l : List Line). HasBytes going q l (before || wrote)) (sym more)
-          (wrote_more going q (take done (map line_at lines)) (map line_at front) a b before
-          (before || wrote) c.loop-done.invariant.handed c.loop-done.invariant.wrote
-          (wrote_or going q (map line_at front) before wrote (before || wrote) refl
-          c.in_ok-passed.ensures.handed_out.wrote));
+          let after = c.saturating_add-wrote.result in
+          subst (λ (l : List Line). HasBytes going q l after) (sym more)
+          (wrote_more going q (take done (map line_at lines)) (map line_at front) a b before after
+          c.loop-done.invariant.handed c.loop-done.invariant.wrote
+          (wrote_on going q (map line_at front) before c.in_ok-passed.passed.wrote after
+          c.saturating_add-wrote.ensures c.in_ok-passed.ensures.handed_out.wrote));
     }

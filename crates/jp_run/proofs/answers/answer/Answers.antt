@@ -21,7 +21,8 @@ returns-clause-answer g c = λ t right.
     ap (λ (ls : List Line). answer_to t (planned_query c.args.plan.now) ls)
     (sym (ap (map line_at) c.deref.ensures.value ∙ c.in_ok-lines.ensures))
     ∙ ap (λ (r : Query). answer_to t r lines) (sym c.compiled.ensures)
-    ∙ asked_so c.asked_of-asked.result c.plain-layout.result (compiled_query c.compiled.result.now) Stop t lines
+    ∙ asked_so c.asked_of-asked.result c.plain-layout.result (compiled_query c.compiled.result.now) Stop t
+    lines
     c.asked_of-asked.ensures.query c.asked_of-asked.ensures.layout c.asked_of-asked.ensures.policy
     c.plain-layout.ensures.head
     ∙ c.in_ok-answer.ensures.answer t right

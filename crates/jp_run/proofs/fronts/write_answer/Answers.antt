@@ -1,11 +1,11 @@
-use Rattle.std.proofs.Common.{arith, refl, rules}
+use Rattle.std.proofs.Common.{arith, rules}
 use Rattle.jp_answer.proofs.OnFaults.{passed_few}
 use Rattle.jp_answer.specs.Answered.{outcome_of}
 use Rattle.jp_answer.specs.Queued.{sent_task}
 use Rattle.jp_run.specs.Answered.{numbering_of}
 use Rattle.jp_run.specs.inner.Going.{manner_asked}
 use Rattle.jp_run.proofs.Handing.{told, handing_done, ended_handing}
-use Rattle.jp_run.proofs.Wrote.{wrote_or, wrote_whole}
+use Rattle.jp_run.proofs.Wrote.{wrote_on, wrote_whole}
 use Rattle.jp_answer.specs.Asking.{asked_query}
 use Rattle.jp_run.proofs.fronts.write_answer.Goals as goal
 
@@ -45,8 +45,9 @@ returns g c =
           come = search rules;
           lines = search rules;
           faulty = search rules;
-          wrote = wrote_or going q task.lines _ _ _ refl (wrote_whole going q task.lines
-              (outcome_of c.args.answer.now) _ c.requires.answer.answer c.has_bytes.ensures);
+          wrote = wrote_on going q task.lines _ _ _ c.saturating_add-stream.ensures
+              (wrote_whole going q task.lines (outcome_of c.args.answer.now) _ c.requires.answer.answer
+              c.byte_count.ensures);
         };
         left = search rules;
         fault = search rules;

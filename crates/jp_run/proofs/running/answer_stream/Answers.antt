@@ -96,7 +96,8 @@ returns-in-End g c =
         flushed = search rules;
         still_working = search rules;
         passed_on = search rules;
-        fault = told_so c.answer_rest-ended.result _ _ (λ f k. rest_ended _ _ _ _ _ f done end.1 k) rest.fault;
+        fault = told_so c.answer_rest-ended.result _ _ (λ f k. rest_ended _ _ _ _ _ f done end.1 k)
+            rest.fault;
         prompt = turned.prompt _ _ _ inv.stands inv.prompt;
         window = turned.window _ _ _ inv.stands inv.window;
         few = search rules;

@@ -1,4 +1,4 @@
-use Rattle.std.proofs.Common.{◌≡◌, ◌∙◌, [], List, None, arith, ap, false, length, map, rules, subst, sym}
+use Rattle.std.proofs.Common.{◌≡◌, ◌∙◌, [], List, None, arith, ap, length, map, rules, subst, sym}
 use Rattle.std.proofs.lemmas.List.{nil_from_length}
 use Rattle.jp_buffer.specs.Buffered.{line_at}
 use Rattle.jp_doc.specs.Lines.{Line}
@@ -23,7 +23,7 @@ returns-then-len-eq0-clause-handed_out g c =
       ready = search rules;
       handed = subst (λ (l : List Line). Handed going q l None u u) (sym none) (handed_none going q u);
       passed = search rules;
-      wrote = subst (λ (l : List Line). HasBytes going q l false) (sym none) (wrote_none going q);
+      wrote = subst (λ (l : List Line). HasBytes going q l 0) (sym none) (wrote_none going q);
       fault = search rules;
     }
 
