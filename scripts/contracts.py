@@ -165,5 +165,5 @@ def page():
         if sentence not in said:
             lost.append(sentence)
         quoted = textwrap.fill(sentence, 108, initial_indent="> ", subsequent_indent="> ")
-        parts += [quoted, "", "```text", "\n\n".join(contract(*root) for root in roots), "```", ""]
+        parts += [quoted, "```text", "\n".join(contract(*root) for root in roots), "```", ""]
     return "\n".join(parts), lost
